@@ -14,7 +14,7 @@ abbrev pub time_text : Option ℕ → List ℕ
 time_text None = []
 time_text (Some nanoseconds) = codes " nanoseconds " ++ decimal nanoseconds
 
--- the threads, the placing, the sections of all threads and, where there is one, the time
+-- the threads, the placing, the sections of all threads and, if there is one, the time
 abbrev pub line_text : Request → Option ℕ → List ℕ
 line_text request nanoseconds =
     codes "threads " ++ decimal request.threads ++ codes " placing " ++ word_of request.placing

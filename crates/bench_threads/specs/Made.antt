@@ -1,4 +1,4 @@
--- What the threads give back.
+-- The workers that the threads return.
 use Rattle.std.specs.Prelude.{◌∷◌, List, []}
 use Rattle.read_section.specs.Worker.{WorkerValue}
 use Rattle.bench_threads.specs.declared.threads.Job.{Job}

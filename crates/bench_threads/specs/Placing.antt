@@ -1,17 +1,17 @@
--- Which workers the threads have.
+-- The workers of the threads.
 use Rattle.std.specs.Prelude.{◌+◌, ◌-◌, ◌*◌, ◌/◌, min, ℕ}
 use Rattle.bench_threads.specs.declared.placing.Placing.{Placing}
 use Rattle.bench_threads.specs.declared.placing.Placing.TheVariants.{SideBySide, Spread}
 use Rattle.bench_threads.specs.declared.placing.TheConstants.{APART}
 use Rattle.versions.specs.declared.layout.TheConstants.{WORKERS}
 
--- how many numbers the workers of two neighbouring threads are apart
+-- the distance between the numbers of the workers of two neighbouring threads
 abbrev pub distance : Placing → ℕ → ℕ
 distance Spread threads = min APART (WORKERS / threads)
 distance SideBySide threads = 1
 
--- how many workers at the beginning are left out before the rest is counted off; of each `distance` workers behind them a thread has
--- the last
+-- the number of workers at the beginning that are left out before the rest is counted off; of each `distance` workers after them
+-- a thread has the last
 abbrev pub passed_over : Placing → ℕ → ℕ
 passed_over Spread threads = 0
 passed_over SideBySide threads = WORKERS - threads

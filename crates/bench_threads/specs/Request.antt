@@ -1,4 +1,4 @@
--- What the words of the program ask for.
+-- The request in the words of the program.
 use Rattle.std.specs.Prelude.{◌≡◌, ◌∷◌, ◌^◌, ◌<◌, ◌≤◌, Bool, List, [], codes, false, true, ℕ}
 use Rattle.std.specs.Str.Parse.{IsNumeral, digits_value, without_leading_plus}
 use Rattle.bench_threads.specs.declared.placing.Placing.{Placing}
@@ -6,7 +6,7 @@ use Rattle.bench_threads.specs.declared.request.Request.{Request}
 use Rattle.bench_threads.specs.Line.{word_of}
 use Rattle.versions.specs.declared.layout.TheConstants.{WORKERS}
 
--- a text is a number in decimal digits; leading zeros and a plus sign in front may stand there
+-- a text is a number in decimal digits; leading zeros and a plus sign in front are allowed
 pub record IsThreads (text : List ℕ) (threads : ℕ) : Type 0 where
   pub digits : IsNumeral 10 (without_leading_plus text)
   pub threads_are : threads ≡ digits_value 10 (without_leading_plus text)
@@ -21,13 +21,13 @@ pub record IsRounds (text : List ℕ) (rounds : ℕ) : Type 0 where
 abbrev pub IsPlacingWord : List ℕ → Placing → Type 0
 IsPlacingWord text placing = text ≡ word_of placing
 
--- the three words in front ask for these threads, rounds and placing
+-- the first three words ask for these threads, rounds and placing
 pub record AreWordsOf (threads_text rounds_text placing_text : List ℕ) (request : Request) : Type 0 where
   pub threads : IsThreads threads_text request.threads
   pub rounds : IsRounds rounds_text request.rounds
   pub placing : IsPlacingWord placing_text request.placing
 
--- what stands behind them
+-- the words after them
 abbrev pub time_words : Bool → List (List ℕ)
 time_words false = []
 time_words true = codes "--time" ∷ []

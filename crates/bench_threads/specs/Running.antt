@@ -1,4 +1,4 @@
--- What the program does for a request.
+-- The effect of the program for a request.
 use Rattle.std.specs.Prelude.{◌≡◌, List, Option, is_some, ℕ}
 use Rattle.read_section.specs.Worker.{WorkerValue}
 use Rattle.bench_threads.specs.declared.request.Request.{Request}
@@ -14,7 +14,7 @@ pub record IsCarriedOut (request : Request) : Type 0 where
   pub are_jobs : AreJobs request.placing request.threads request.rounds jobs
   pub made : AreMade jobs workers
 
--- the request was carried out, and the line that tells so was written, with a time where one is asked for
+-- the request was carried out, and the line that reports it was written, with a time if one is asked for
 pub record Tells (request : Request) (before after : Option (List ℕ)) : Type 0 where
   pub carried_out : IsCarriedOut request
   pub nanoseconds : Option ℕ

@@ -13,7 +13,7 @@ pub record IsSection (before after : WorkerValue) : Type 0 where
   pub read : FewFetches 0 word inside last
   pub then_left : after ≡ steps left last
 
--- so many of them, and nothing else
+-- this many of them, and nothing else
 pub data AreSections : ℕ → WorkerValue → WorkerValue → Type 0 where
   none : (worker : WorkerValue) → AreSections 0 worker worker
   one_more : (count : ℕ) (before mid after : WorkerValue) → AreSections count before mid → IsSection mid after → AreSections (count + 1) before after

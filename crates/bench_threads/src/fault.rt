@@ -1,4 +1,4 @@
-//! How the program ends: its exit status, and why it failed.
+//! The end of the program: its exit status, and why it failed.
 
 ghost use Rattle.std.specs.Prelude.{◌≡◌};
 ghost use Rattle.bench_threads.specs.declared.fault.Fault.TheVariants.{OutOfMemory};
@@ -11,7 +11,7 @@ use std::io::Write;
 #[derive(Clone, Copy, Debug, PartialEq, Eq)]
 pub enum Status {
     Done = 0,
-    /// The words are at fault.
+    /// The words are wrong.
     Misused = 2,
     Failed = 3,
 }
@@ -46,7 +46,7 @@ impl Fault {
         }
     }
 
-    /// Tells the fault in one line. An error of `errs` changes nothing.
+    /// Reports the fault in one line. An error of `errs` is ignored.
     pub fn report<E: Write>(self, errs: &mut E) -> Status
         ensures { result ≡ Status.Failed }
     {
@@ -55,7 +55,7 @@ impl Fault {
     }
 }
 
-/// Tells in one line which words the program takes. An error of `errs` changes nothing.
+/// Writes one line that says which words the program takes. An error of `errs` is ignored.
 pub fn refuse_words<E: Write>(errs: &mut E) -> Status
     ensures { result ≡ Status.Misused }
 {

@@ -1,4 +1,4 @@
-//! The jobs: a worker of one table for each thread, taken as the placing says.
+//! The jobs: a worker of one table for each thread, as the placing says.
 
 ghost use Rattle.std.specs.Prelude.{◌≡◌, ◌<◌, ◌≤◌, IfOk, length, vec_len};
 ghost use Rattle.versions.specs.declared.layout.TheConstants.{WORKERS};
@@ -35,7 +35,7 @@ fn take_jobs(
     Ok(jobs)
 }
 
-/// Opens a table without groups, and makes a job of so many rounds for each thread.
+/// Opens a table without groups, and makes a job of `rounds` rounds for each thread.
 pub fn open_jobs(
     alloc: Global,
     threads: usize,

@@ -1,8 +1,9 @@
 //! The program `bench_threads`: read sections in threads, on one table (docs/PERFORMANCE.md, "Sections in threads").
 //!
-//! Its words are the number of threads, how many rounds each makes, `spread` or `side-by-side`, and `--time` or nothing. It prints one
-//! line: the threads, the placing of their workers, how many sections were made in all and, with `--time`, the nanoseconds from before
-//! the first thread is started until after the last has ended. It exits with 2 where its words are at fault, and with 3 where it failed.
+//! Its words are the number of threads, the number of rounds of each, `spread` or `side-by-side`, and `--time` or
+//! nothing. It prints one line: the threads, the placing of their workers, the number of all sections and, with
+//! `--time`, the nanoseconds from before the first thread is started until after the last has ended. It exits with 2 if
+//! its words are wrong, and with 3 if it failed.
 #![tactic(auto)]
 
 mod fault;

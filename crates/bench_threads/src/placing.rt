@@ -1,4 +1,4 @@
-//! Which workers the threads have: some whose read words lie far apart, or neighbours.
+//! The workers of the threads: some whose read words are far apart, or neighbours.
 
 ghost use Rattle.std.specs.Prelude.{◌≡◌, ◌+◌, ◌*◌, ◌<◌, ◌≤◌, ◌∷◌, [], map};
 ghost use Rattle.versions.specs.declared.layout.TheConstants.{WORKERS};
@@ -6,17 +6,17 @@ ghost use Rattle.bench_threads.specs.Placing.{distance, number_at, passed_over};
 
 use read_section::WORKERS;
 
-/// Which workers the threads have.
+/// The choice of the workers of the threads.
 #[derive(Clone, Copy, Debug, PartialEq, Eq)]
 pub enum Placing {
-    /// Of up to eight threads the workers are 7, 15, 23 and so on, those that `spread` of read_section puts first. Their read words are
-    /// eight apart. Of more threads they are `64 / threads` apart.
+    /// For up to eight threads the workers are 7, 15, 23 and so on, those that `spread` of read_section puts first.
+    /// Their read words are eight apart. For more threads they are `64 / threads` apart.
     Spread,
-    /// The last workers of the table, whose read words lie side by side.
+    /// The last workers of the table, whose read words are side by side.
     SideBySide,
 }
 
-// Read words that are so many words apart never share a cache line of 64 bytes.
+// Read words that are this many words apart never share a cache line of 64 bytes.
 const APART: usize = 8;
 
 /// Law: the numbers of the workers of four threads. It runs nothing.
@@ -26,7 +26,7 @@ pub fn placings_as_numbers()
 {}
 
 impl Placing {
-    /// How many numbers the workers of two neighbouring threads are apart.
+    /// Returns the distance between the numbers of the workers of two neighbouring threads.
     pub fn distance(self, threads: usize) -> usize
         requires some { 0 < threads }
         requires at_most { threads ≤ WORKERS }
@@ -40,7 +40,7 @@ impl Placing {
         }
     }
 
-    /// The number above that of the first thread's worker, which has the highest.
+    /// Returns the number above that of the first thread's worker, which has the highest.
     pub fn above(self, threads: usize) -> usize
         requires some { 0 < threads }
         requires at_most { threads ≤ WORKERS }

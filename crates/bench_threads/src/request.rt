@@ -1,4 +1,4 @@
-//! What the program's words ask for.
+//! The request in the program's words.
 
 ghost use Rattle.std.specs.Prelude.{◌≡◌, ◌↔◌, IfSome, IsTrue, MatchOption, codes, map, string_bytes, ℕ};
 ghost use Rattle.bench_threads.specs.Request.{AreWordsOf, IsPlacingWord, IsRequest, IsRounds, IsThreads};
@@ -8,7 +8,8 @@ ghost use Rattle.bench_threads.specs.declared.request.Request.{Request};
 use crate::placing::Placing;
 use read_section::WORKERS;
 
-/// How many threads make how many rounds each, with which workers, and whether the time is asked for.
+/// The number of threads, the number of rounds of each, the placing of their workers, and whether the time is asked
+/// for.
 #[derive(Clone, Copy, Debug)]
 pub struct Request {
     pub threads: usize,
@@ -48,7 +49,7 @@ fn asks_for_time(word: &str) -> bool
     matches!(word, "--time")
 }
 
-// The request of the three words in front.
+// Returns the request of the first three words.
 fn request_of(threads: &str, rounds: &str, placing: &str, is_timed: bool) -> Option<Request>
     ensures request { MatchOption result ((request : Request) → AreWordsOf threads.now rounds.now placing.now request → ⊥)
         (AreWordsOf threads.now rounds.now placing.now) }
@@ -62,7 +63,7 @@ fn request_of(threads: &str, rounds: &str, placing: &str, is_timed: bool) -> Opt
     })
 }
 
-/// The request that the words are; none where they are no request.
+/// Reads the request that the words are. `None` if they are not a request.
 pub fn read_request(words: &[String]) -> Option<Request>
     ensures { MatchOption result ((request : Request) → IsRequest (map string_bytes words.now) request → ⊥)
         (IsRequest (map string_bytes words.now)) }

@@ -1,4 +1,4 @@
-//! The program's run: the sections that its words ask for, and the line that tells of them.
+//! The program's run: the sections that its words ask for, and the line that reports them.
 
 ghost use Rattle.std.specs.Prelude.{◌≡◌, ◌<◌, ◌≤◌, IfOk, OnOk, is_some, map, string_bytes};
 ghost use Rattle.versions.specs.declared.layout.TheConstants.{WORKERS};
@@ -21,8 +21,8 @@ fn nanoseconds_since<R: Clock>(rt: &R, start: Instant) -> Result<u64, Fault> {
     u64::try_from(time.as_nanos()).map_err(|_| Fault::ClockFailed)
 }
 
-// Opens a table, runs the threads and, where that is asked for, answers the time from before the first is started until after
-// the last has ended.
+// Opens a table, runs the threads and, if that is asked for, returns the time from before the first is started until
+// after the last has ended.
 fn carry_out<R: Threads + Clock>(
     rt: &R,
     alloc: Global,
@@ -57,7 +57,7 @@ fn run_request<R: Threads + Clock, W: Write>(
     write_line(request, nanoseconds, out)
 }
 
-/// Does what the words ask for, and answers the exit status.
+/// Does what the words ask for, and returns the exit status.
 pub fn run<R: Threads + Clock, W: Write, E: Write>(
     rt: &R,
     alloc: Global,

@@ -5,7 +5,8 @@ ghost use Rattle.bench_threads.specs.Sections.{AreSections, IsSection};
 use bpf_insn::Words;
 use read_section::Worker;
 
-// Enters a section, reads its first word and leaves. Inlined, as the calls of a section are where packets are judged.
+// Enters a section, reads its first word and leaves. Inlined, as the calls of a section are in the code that judges
+// packets.
 #[inline(always)]
 fn make_section(worker: &mut Worker)
     ensures { IsSection worker.old worker.new }
@@ -15,7 +16,7 @@ fn make_section(worker: &mut Worker)
     section.leave();
 }
 
-/// Makes so many sections, in each of which one word is read.
+/// Makes `rounds` sections, in each of which one word is read.
 pub fn make_sections(worker: &mut Worker, rounds: u32)
     ensures { AreSections rounds worker.old worker.new }
 {

@@ -12,7 +12,7 @@ use std::snapshot::Snapshot;
 use std::thread;
 use std::thread::{Promise, PromisedHandle, Threads};
 
-/// What a thread starts with: its worker, and how many sections that is to make.
+/// The data that a thread starts with: its worker, and the number of sections that this is to make.
 #[derive(Drop)]
 pub struct Job {
     pub worker: Worker,
@@ -27,7 +27,8 @@ fn finish(job: Job) -> Worker
     worker
 }
 
-// Holds a job as it is before its thread is started. It promises that the worker that the thread gives back has made its sections.
+// A job as it is before its thread is started. It promises that the worker that the thread returns has made its
+// sections.
 #[derive(Drop)]
 struct Finishes(Snapshot<Job>);
 
@@ -35,7 +36,7 @@ impl Promise<Worker> for Finishes {
     ghost kept_by = { λ promise worker. AreSections promise.0.value.rounds promise.0.value.worker worker };
 }
 
-// Starts a thread for each job, in their order. False where one could not be started; those before it run.
+// Starts a thread for each job, in their order. False if one could not be started; those before it run.
 fn start_each<R: Threads>(
     rt: &R,
     jobs: Vec<Job>,
@@ -59,7 +60,7 @@ fn start_each<R: Threads>(
     true
 }
 
-// Waits for each thread, and gives their workers back in order.
+// Waits for each thread, and returns their workers in order.
 fn join_each<R: Threads>(
     rt: &R,
     handles: Vec<PromisedHandle<Worker, Finishes>>,
@@ -76,9 +77,11 @@ fn join_each<R: Threads>(
     }
 }
 
-/// Runs each job in a thread of its own, and gives the workers back, in the order of the jobs, once all threads have ended.
+/// Runs each job in a thread of its own, and returns the workers, in the order of the jobs, once all threads have
+/// ended.
 ///
-/// The memory of handles and workers is taken before a thread is started. Where one cannot be started, those before it are waited for.
+/// The memory of handles and workers is taken before a thread is started. If one cannot be started, those before it are
+/// waited for.
 pub fn run_jobs<R: Threads>(rt: &R, alloc: Global, jobs: Vec<Job>) -> Result<Vec<Worker>, Fault>
     ensures made { IfOk result (λ workers. AreMade jobs.items workers.items) }
 {

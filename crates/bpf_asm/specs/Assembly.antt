@@ -7,11 +7,11 @@ use Rattle.bpf_asm.specs.Line.{lines_of}
 use Rattle.bpf_asm.specs.Statement.{Line, Spells_line}
 use Rattle.bpf_asm.specs.Target.{IsCode, doubles_fault, first_of, labels_from, place_in, statements_of, targets_fault}
 
--- the place that each name stands for in these lines
+-- the place of each name in these lines
 abbrev pub places_of : List Line → List ℕ → Option ℕ
 places_of lines name = place_in (labels_from 0 lines) name
 
--- what is wrong with lines that each are in a form: first a name defined again, else a target
+-- the fault of lines that each are in a form: first a name defined again, else a target
 abbrev pub fault_of_lines : List Line → Option AsmFault
 fault_of_lines lines = first_of (doubles_fault [] 1 lines) (targets_fault (places_of lines) 0 1 lines)
 

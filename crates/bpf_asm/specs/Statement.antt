@@ -12,18 +12,18 @@ use Rattle.bpf_insn.specs.declared.instruction.Test.{Test}
 use Rattle.bpf_insn.specs.declared.instruction.Test.TheVariants.{CommonBit, Equal, Greater, GreaterOrEqual}
 use Rattle.bpf_asm.specs.Token.{IsTokens, Token, mark, number, word}
 
--- where a jump goes: so many instructions past the next one, or to a label
+-- the target of a jump: so many instructions past the next one, or a label
 pub data Target : Type 0 where
   skips : ℕ → Target
   goes_to : List ℕ → Target
 
--- an instruction, of which a jump still has the targets as they are written
+-- an instruction; a jump still has its targets as they are written
 pub data Statement : Type 0 where
   plain : Insn → Statement
   jump : Target → Statement
   branch : Test → Operand → Target → Target → Statement
 
--- what a line holds
+-- the content of a line
 pub record Line : Type 0 where
   pub label : Option (List ℕ)
   pub statement : Option Statement
@@ -100,7 +100,7 @@ SpellsInsn tokens ReturnA = tokens ≡ word (codes "ret") ∷ word (codes "a") �
 SpellsInsn tokens (Jump k) = ⊥
 SpellsInsn tokens (JumpIf test right offsets) = ⊥
 
--- a target of `ja`, where a number stands behind `+`, and of a conditional jump
+-- a target of `ja`, with a number after `+`, and of a conditional jump
 abbrev pub far_target : Target → List Token
 far_target (skips k) = punctuation (codes "+") ++ number k ∷ []
 far_target (goes_to name) = word name ∷ []

@@ -1,4 +1,4 @@
--- Labels, and where jumps go (docs/MACHINE.md, "Assembly text"). Places count instructions from 0, lines from 1.
+-- Labels, and the targets of jumps (docs/MACHINE.md, "Assembly text"). Places count instructions from 0, lines from 1.
 use Rattle.std.specs.Prelude.{◌≡◌, ◌+◌, ◌-◌, ◌≤◌, ◌∷◌, Bool, List, None, Option, Some, [], false, if◌then◌else◌, nat_le, ℕ}
 use Rattle.std.specs.List.{list_any}
 use Rattle.std.specs.Map.{lookup}
@@ -25,8 +25,8 @@ abbrev pub statements_of : List Line → List Statement
 statements_of [] = []
 statements_of (line ∷ lines) = with_statement line.statement (statements_of lines)
 
--- the labels of the lines, each with the place of the instruction that follows it; at the end that is the place behind
--- the last instruction
+-- the labels of the lines, each with the place of the instruction that follows it; at the end that is the place after the last
+-- instruction
 abbrev pub with_label : Option (List ℕ) → ℕ → List (List ℕ × ℕ) → List (List ℕ × ℕ)
 with_label None place labels = labels
 with_label (Some name) place labels = (name, place) ∷ labels
@@ -35,7 +35,7 @@ abbrev pub labels_from : ℕ → List Line → List (List ℕ × ℕ)
 labels_from place [] = []
 labels_from place (line ∷ lines) = with_label line.label place (labels_from (place + count_of line.statement) lines)
 
--- the place that a name stands for
+-- the place of a name
 abbrev pub place_in : List (List ℕ × ℕ) → List ℕ → Option ℕ
 place_in labels name = lookup (bytes_eq name) labels
 
@@ -73,7 +73,7 @@ IsCode places pc (statement ∷ statements) words =
     × IsInsnOf places pc statement insn
     × IsCode places (pc + 1) statements rest
 
--- what is wrong with a target of line n, at the place that its name stands for
+-- the fault of a target of line n, at the place of its name
 abbrev pub place_fault : ℕ → ℕ → ℕ → Option ℕ → Option AsmFault
 place_fault pc most n None = Some (UnknownLabel n)
 place_fault pc most n (Some place) =
@@ -83,7 +83,7 @@ abbrev pub target_fault : (List ℕ → Option ℕ) → ℕ → ℕ → ℕ → 
 target_fault places pc most n (skips k) = if nat_le k most then None else Some (TooFar n)
 target_fault places pc most n (goes_to name) = place_fault pc most n (places name)
 
--- the first of two faults, none where there is none
+-- the first of two faults, none if there is none
 abbrev pub first_of : Option AsmFault → Option AsmFault → Option AsmFault
 first_of None second = second
 first_of (Some fault) second = Some fault

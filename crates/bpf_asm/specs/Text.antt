@@ -14,7 +14,7 @@ abbrev pub printed_operand : Operand → List ℕ
 printed_operand (K k) = codes "#" ++ decimal k
 printed_operand X = codes "x"
 
--- the mnemonic, one space where something follows, and the rest without a space
+-- the mnemonic, one space if something follows, and the rest without a space
 abbrev pub printed_insn : Insn → List ℕ
 printed_insn (LoadAbsolute size k) = load_name size ++ (codes " [" ++ decimal k ++ codes "]")
 printed_insn (LoadIndexed size k) = load_name size ++ (codes " [x+" ++ decimal k ++ codes "]")

@@ -43,7 +43,7 @@ IsHexadecimal run n = (digits : List ℕ) × (run ≡ codes "0x" ++ digits) × I
 abbrev pub SpellsNumber : List ℕ → ℕ → Type 0
 SpellsNumber run n = (n < 2 ^ 32) × ((run ≡ decimal n) ⊎ IsHexadecimal run n)
 
--- a run of bytes is this token, where the rest of the line follows
+-- a run of bytes is this token, if the rest of the line follows
 abbrev pub SpellsToken : List ℕ → List ℕ → Token → Type 0
 SpellsToken run rest (word name) = (run ≡ name) × BeginsWith begins_word run × IsLongestRun is_in_word run rest
 SpellsToken run rest (number n) = BeginsWith is_ascii_digit run × IsLongestRun is_ascii_alphanumeric run rest × SpellsNumber run n

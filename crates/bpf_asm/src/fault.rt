@@ -25,7 +25,7 @@ pub enum AsmFault {
 }
 
 impl AsmFault {
-    /// The code (docs/COMMANDS.md, "Refusals").
+    /// Returns the code (docs/COMMANDS.md, "Refusals").
     pub fn code(self) -> Code
         ensures { result ≡ asm_code self }
     {

@@ -1,4 +1,4 @@
-//! Labels, and the places that they stand for (docs/MACHINE.md, "Assembly text").
+//! Labels and their places (docs/MACHINE.md, "Assembly text").
 
 ghost use Rattle.std.specs.Prelude.{◌≡◌, ◌≤◌, IfErr, IfOk, List, MatchResult, None, OnOk, Some, [], is_none, map, ℕ};
 ghost use Rattle.std.specs.Map.{update};
@@ -14,14 +14,14 @@ use bpf_verify::OutOfMemory;
 use std::alloc::Allocator;
 use std::collections::BTreeMap;
 
-/// The place of each name: how many instructions stand before its label.
+/// The place of each name: the number of instructions before its label.
 #[derive(Drop)]
 pub(crate) struct Labels<'a, A: Allocator> {
     pub(crate) places: BTreeMap<&'a [u8], usize, A>,
 }
 
 impl<'a, A: Allocator> Labels<'a, A> {
-    /// Tells the place of a name.
+    /// Returns the place of a name.
     pub(crate) fn place(&self, name: &'a [u8]) -> Option<usize>
         ensures { result ≡ place_among self.now.places name.now }
     {
@@ -30,7 +30,7 @@ impl<'a, A: Allocator> Labels<'a, A> {
 }
 
 impl<'a, A: Allocator + Clone> Labels<'a, A> {
-    // Tells whether the name is new.
+    // Defines a name, and returns whether it is new.
     fn define(&mut self, name: &'a [u8], place: usize) -> Result<bool, OutOfMemory>
         ensures { IfOk result (λ is_new. (is_new ≡ is_none (place_among self.old.places name.entry.now))
             × ((other : List ℕ) → place_among self.new.places other ≡ update bytes_eq (place_among self.old.places) name.entry.now (Some place) other)) }
@@ -66,7 +66,7 @@ fn count_of(line: &Line) -> usize
     }
 }
 
-/// Collects the labels of some lines, or tells the first line that defines a name again.
+/// Collects the labels of some lines, or reports the first line that defines a name again.
 pub(crate) fn labels_of<'a, A: Allocator + Clone>(
     alloc: A,
     lines: &[Line<'a>],

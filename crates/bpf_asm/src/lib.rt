@@ -1,8 +1,8 @@
 //! The assembly text of classic BPF programs, both ways: bpf_asm's notation with labels (networking/filter.rst;
 //! docs/MACHINE.md, "Assembly text").
 //!
-//! `assemble` reads a text of any length, exactly in the notation. `print` writes the one spelling of a program, and `print_in_line`
-//! the same on one line; `assemble` reads both back. All take any allocator.
+//! `assemble` reads a text of any length, exactly in the notation. `print` writes the one spelling of a program. `print_in_line`
+//! does the same on one line. `assemble` reads both back. All take any allocator.
 #![tactic(auto)]
 
 ghost use Rattle.std.specs.Prelude.{◌≡◌, ◌⊎◌, Err, IfErr, IfOk, IsOk, List, ℕ};
@@ -24,10 +24,10 @@ pub use fault::AsmFault;
 pub use printing::{print, print_in_line};
 use std::alloc::Allocator;
 
-/// Assembles a text to words, which need not be a program: their number and what they do is `bpf_verify`'s matter.
+/// Assembles a text to words. The words need not be a program: `bpf_verify` checks that.
 ///
-/// `Err` is the first line in no form, else the first line that defines a name again, else the first fault of a target,
-/// of one line's targets the first.
+/// `Err` is the first line in no form, else the first line that defines a name again, else the first fault of a target. If both
+/// targets of a line are at fault, the first one counts.
 pub fn assemble<A: Allocator + Clone>(alloc: A, text: &[u8]) -> Result<Vec<u64, A>, AsmFault>
     ensures assembles { IfOk result (λ words. Assembles text.now words.items) }
     ensures fault { IfErr result (IsFaultOrMemory text.now) }

@@ -1,4 +1,4 @@
-//! The lines of a text, and what stands on each (docs/MACHINE.md, "Assembly text").
+//! The lines of a text, and the contents of each (docs/MACHINE.md, "Assembly text").
 
 ghost use Rattle.std.specs.Prelude.{◌≡◌, ◌∷◌, ◌++◌, ◌≤◌, MatchResult, None, Some, is_some, length, map};
 ghost use Rattle.std.specs.Option.{option_map};
@@ -24,7 +24,7 @@ fn ends_line(b: u8) -> bool
     b == b'\n' || b == b';'
 }
 
-/// Cuts the first line off a text, and gives what is left, or nothing where it was the last line.
+/// Cuts the first line off a text. Returns the line and the rest, or `None` for the rest if it was the last line.
 pub(crate) fn first_line(text: &[u8]) -> (&[u8], Option<&[u8]>)
     ensures lines { lines_of text.now ≡ result.0.now ∷ lines_left result.1 }
     ensures shorter { left_len result.1 ≤ length text.now }
@@ -37,14 +37,14 @@ pub(crate) fn first_line(text: &[u8]) -> (&[u8], Option<&[u8]>)
     (text, None)
 }
 
-// What a line begins with: its label, and its mnemonic with the bytes behind that.
+// The beginning of a line: its label, and its mnemonic with the bytes after it.
 #[derive(Clone, Copy)]
 struct Heading<'a> {
     label: Option<&'a [u8]>,
     mnemonic: Option<(&'a [u8], &'a [u8])>,
 }
 
-// What a line with a label begins with; `behind` follows the colon.
+// Reads the beginning of a line with a label; `behind` follows the colon.
 #[tactic(auto, unfolding(crate::specs::body::Reading::rest_in))]
 fn labelled<'a>(name: &'a [u8], behind: &'a [u8]) -> Option<Heading<'a>>
     ensures { line_begun result ≡ option_map (λ statement. line (Some name.entry.now) statement) (rest_in (tokens_of behind.entry.now)) }
@@ -83,8 +83,8 @@ fn read_heading(line: &[u8]) -> Option<Heading<'_>>
     }
 }
 
-// Reads a line and puts it behind the lines before it, or tells that it is in no form. Lines with and without an instruction are
-// each put there where they are made: a line is large, and moved as seldom as can be.
+// Reads a line and appends it, or returns `false` if it is in no form. Lines with and without an instruction are each appended as
+// soon as they are made: a line is large, so it is moved as seldom as possible.
 fn push_line<'a, A: Allocator>(
     lines: &mut Vec<Line<'a>, A>,
     bytes: &'a [u8],
@@ -111,7 +111,7 @@ fn push_line<'a, A: Allocator>(
     Ok(true)
 }
 
-/// Reads the lines of a text, or tells the first that is in no form.
+/// Reads the lines of a text, or reports the first line that is in no form.
 /// The reason: docs/INTERNALS.md, "The lines of an assembly are kept".
 pub(crate) fn read_lines<A: Allocator>(alloc: A, text: &[u8]) -> Result<Vec<Line<'_>, A>, AsmFault>
     ensures { MatchResult result

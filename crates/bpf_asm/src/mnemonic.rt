@@ -6,7 +6,7 @@ ghost use Rattle.bpf_asm.specs.body.Reading.{operation_of, test_of};
 
 use bpf_insn::{Operation, Test};
 
-/// Tells whether a word is this one.
+/// Tests whether a word is this name.
 #[inline(always)]
 pub(crate) fn is_name(word: &[u8], name: &str) -> bool
     ensures { result ≡ bytes_eq word.now name.now }

@@ -33,7 +33,7 @@ fn numeral(radix: u32, digits: &[u8]) -> Option<u32>
     Some(value)
 }
 
-/// Tells the number that a run of letters and digits spells, where it is one below 2^32.
+/// Returns the number that a run of letters and digits spells, if it spells one below 2^32.
 #[tactic(auto, unfolding(crate::specs::body::Reading::number_of))]
 pub(crate) fn number_of(run: &[u8]) -> Option<u32>
     ensures { result ≡ number_of run.now }

@@ -1,4 +1,4 @@
-//! Operands as they are written behind a mnemonic (docs/MACHINE.md, "Assembly text").
+//! Operands as they are written after a mnemonic (docs/MACHINE.md, "Assembly text").
 
 ghost use Rattle.std.specs.Prelude.{◌≡◌, codes};
 ghost use Rattle.std.specs.Option.{option_map};
@@ -44,7 +44,7 @@ fn closed(line: &[u8]) -> Option<(u32, &[u8])>
     }
 }
 
-// `k]` or `x+k]`, behind `[`
+// `k]` or `x+k]`, after `[`
 #[tactic(auto, unfolding(crate::specs::body::Reading::bracket_in, crate::specs::body::Reading::closed_in, crate::specs::body::Reading::after_number, crate::specs::body::Reading::after_word))]
 fn bracket(line: &[u8]) -> Option<(Form<'_>, &[u8])>
     ensures { option_map (λ found. (form_of found.0, tokens_of found.1.now)) result ≡ bracket_in (tokens_of line.now) }
@@ -67,7 +67,7 @@ fn bracket(line: &[u8]) -> Option<(Form<'_>, &[u8])>
     }
 }
 
-// `*([k]&0xf)`, behind a number that has to be 4
+// `*([k]&0xf)`, after a number that must be 4
 #[tactic(auto, unfolding(crate::specs::body::Reading::header_in))]
 fn header(four: u32, line: &[u8]) -> Option<(Form<'_>, &[u8])>
     ensures { option_map (λ found. (form_of found.0, tokens_of found.1.now)) result ≡ header_in four (tokens_of line.now) }
@@ -100,7 +100,7 @@ fn header(four: u32, line: &[u8]) -> Option<(Form<'_>, &[u8])>
     }
 }
 
-// A word: `M` before `[k]`, or a name that stands alone.
+// A word: `M` before `[k]`, or a name alone.
 #[tactic(auto, unfolding(crate::specs::body::Reading::named_in))]
 fn named<'a>(name: &'a [u8], line: &'a [u8]) -> Option<(Form<'a>, &'a [u8])>
     ensures { option_map (λ found. (form_of found.0, tokens_of found.1.now)) result ≡ named_in name.now (tokens_of line.now) }
@@ -136,7 +136,7 @@ fn marked(mark: u8, line: &[u8]) -> Option<(Form<'_>, &[u8])>
     }
 }
 
-/// Reads the operand at the front of a line, and gives the rest. A label of a jump is an operand too.
+/// Reads the operand at the front of a line, and returns it with the rest. A label of a jump is an operand too.
 #[tactic(auto, unfolding(crate::specs::body::Reading::form_in))]
 pub(crate) fn operand_form(line: &[u8]) -> Option<(Form<'_>, &[u8])>
     ensures { option_map (λ found. (form_of found.0, tokens_of found.1.now)) result ≡ form_in (tokens_of line.now) }

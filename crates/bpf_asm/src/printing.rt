@@ -57,7 +57,7 @@ fn print_operand<A: Allocator>(text: &mut String<A>, operand: Operand) -> Result
     }
 }
 
-// Prints a number behind a text.
+// Prints a number after a text.
 fn print_number<A: Allocator>(text: &mut String<A>, front: &str, k: u32) -> Result<(), OutOfMemory>
     ensures { OnOk result (string_bytes text.new ≡ string_bytes text.old ++ (front.now ++ decimal k)) }
 {
@@ -141,8 +141,8 @@ fn print_insn<A: Allocator>(text: &mut String<A>, insn: Insn) -> Result<(), OutO
     }
 }
 
-/// Prints a program as a text in memory of `alloc`: an instruction a line, numbers in decimal, jumps by numbers, one
-/// space behind the mnemonic and no other. A program has one spelling, and `assemble` reads it back.
+/// Prints a program as a text in memory of `alloc`: one instruction on each line, numbers in decimal, jumps by numbers, and no
+/// space but one after the mnemonic. A program has one spelling, and `assemble` reads it back.
 pub fn print<A: Allocator, B: Allocator>(
     alloc: A,
     program: &Program<B>,
@@ -158,7 +158,7 @@ pub fn print<A: Allocator, B: Allocator>(
     Ok(text)
 }
 
-/// Prints a program on one line, as `print` does but with `; ` between two instructions in place of LF behind each.
+/// Prints a program on one line, as `print` does, but with `; ` between two instructions in place of LF after each.
 pub fn print_in_line<A: Allocator, B: Allocator>(
     alloc: A,
     program: &Program<B>,

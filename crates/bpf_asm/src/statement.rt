@@ -1,4 +1,4 @@
-//! Instructions as they are written, of which a jump may go to a label (docs/MACHINE.md, "Assembly text").
+//! Instructions as they are written; a jump may go to a label (docs/MACHINE.md, "Assembly text").
 
 ghost use Rattle.std.specs.Prelude.{◌≡◌};
 ghost use Rattle.std.specs.Option.{option_map};
@@ -10,7 +10,7 @@ use crate::operand::{Form, operand_form};
 use crate::token::{Token, after_mark, first_token, is_blank};
 use bpf_insn::{Insn, Operand, Size, Test};
 
-/// Where a jump goes.
+/// The target of a jump.
 #[derive(Clone, Copy)]
 pub(crate) enum Target<'a> {
     // So many instructions past the next one.
@@ -176,7 +176,7 @@ fn near_target(line: &[u8]) -> Option<(Target<'_>, &[u8])>
     }
 }
 
-// A conditional jump whose operand was read; `line` is what follows that.
+// A conditional jump whose operand was read; `line` follows the operand.
 #[tactic(auto, unfolding(crate::specs::body::Reading::branch_behind))]
 fn branch<'a>(test: Test, form: Form<'a>, line: &'a [u8]) -> Option<Statement<'a>>
     ensures { option_map statement_of result ≡ branch_behind test (form_of form.entry) (tokens_of line.now) }
@@ -220,7 +220,7 @@ fn unbranched<'a>(name: &[u8], form: Form<'a>) -> Option<Statement<'a>>
     }
 }
 
-/// Reads the instruction of a mnemonic and of the line behind it.
+/// Reads the instruction of a mnemonic and of the rest of its line.
 #[tactic(auto, unfolding(crate::specs::body::Reading::branch_in, crate::specs::body::Reading::unbranched_in, crate::specs::body::Reading::statement_in))]
 pub(crate) fn read_statement<'a>(name: &[u8], line: &'a [u8]) -> Option<Statement<'a>>
     ensures { option_map statement_of result ≡ statement_in name.now (tokens_of line.now) }

@@ -1,4 +1,4 @@
-//! Where each jump goes, and the words of a text whose labels are known (docs/MACHINE.md, "Assembly text").
+//! Jump targets, and the words of a text whose labels are known (docs/MACHINE.md, "Assembly text").
 
 ghost use Rattle.std.specs.Prelude.{◌≡◌, ◌+◌, ◌^◌, ◌<◌, ◌≤◌, IfErr, IfOk, MatchResult, Some, length, map};
 ghost use Rattle.std.specs.Option.{option_map};
@@ -17,7 +17,7 @@ const FARTHEST: usize = 0xffff_ffff;
 
 const FARTHEST_BRANCH: usize = 0xff;
 
-// Where an instruction stands: its place among the instructions, and its line.
+// The position of an instruction: its place among the instructions, and its line.
 #[derive(Clone, Copy)]
 struct Position {
     pc: usize,
@@ -93,7 +93,7 @@ fn insn_of<'a, A: Allocator>(
     }
 }
 
-// Puts the word of a line's instruction behind the words before it.
+// Appends the word of a line's instruction to the words before it.
 fn push_word<'a, A: Allocator, B: Allocator>(
     words: &mut Vec<u64, B>,
     labels: &Labels<'a, A>,
@@ -120,7 +120,7 @@ fn push_word<'a, A: Allocator, B: Allocator>(
     }
 }
 
-/// Makes the words of some lines, or tells the first fault of a target.
+/// Makes the words of some lines, or reports the first fault of a target.
 pub(crate) fn words_of<'a, A: Allocator, B: Allocator>(
     alloc: B,
     labels: &Labels<'a, A>,

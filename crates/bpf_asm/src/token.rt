@@ -43,7 +43,7 @@ fn is_mark(b: u8) -> bool
     )
 }
 
-// A byte that may stand in a word has itself at its place, every other byte a comma.
+// The entry of a byte is the byte itself if it may occur in a word, else a comma.
 static IN_WORDS: [u8; 256] = *b"\
     ,,,,,,,,,,,,,,,,,,,,,,,,,,,,,,,,\
     ,,,,,,,,,,,,,,,,0123456789,,,,,,\
@@ -117,7 +117,7 @@ fn behind_gap(line: &[u8]) -> &[u8]
     longest_run(Kind::Gap, line).1
 }
 
-/// Tells whether a line has no token.
+/// Tests whether a line has no token.
 #[inline(always)]
 pub(crate) fn is_blank(line: &[u8]) -> bool
     ensures { result ≡ is_end (tokens_of line.now) }
@@ -125,7 +125,7 @@ pub(crate) fn is_blank(line: &[u8]) -> bool
     behind_gap(line).is_empty()
 }
 
-/// Gives what follows a mark, where that is the first token of a line.
+/// Returns the rest of a line after a mark, if the mark is the line's first token.
 #[inline(always)]
 pub(crate) fn after_mark(line: &[u8], mark: u8) -> Option<&[u8]>
     requires { IsTrue (is_mark mark) }
@@ -136,7 +136,7 @@ pub(crate) fn after_mark(line: &[u8], mark: u8) -> Option<&[u8]>
     if b == mark { Some(&line[1..]) } else { None }
 }
 
-/// Reads the first token of a line, and gives the rest of the line, or nothing where only gaps are left.
+/// Reads the first token of a line. Returns the token and the rest of the line, or `None` if only gaps are left.
 #[inline(always)]
 pub(crate) fn first_token(line: &[u8]) -> Option<(Token<'_>, &[u8])>
     ensures { MatchOption result (tokens_of line.now ≡ []) (λ found. tokens_of line.now ≡ token_of found.0 ∷ tokens_of found.1.now) }

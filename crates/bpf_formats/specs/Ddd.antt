@@ -32,6 +32,6 @@ pub record IsDdd (text words : List ℕ) : Type 0 where
 abbrev pub ddd_line : ℕ → List ℕ
 ddd_line it = fields_text (code_of it) (true_jump_of it) (false_jump_of it) (constant_of it) ++ 10 ∷ []
 
--- the one text that is printed of words: their number, then each on a line of its own
+-- the one text that is printed of words: their number, then each on a separate line
 abbrev pub ddd_text : List ℕ → List ℕ
 ddd_text words = (decimal (length words) ++ 10 ∷ []) ++ flat_map ddd_line words

@@ -1,4 +1,4 @@
--- What is wrong with a text that is no list of words (docs/MACHINE.md, "Programs as numbers").
+-- The fault of a text that is no list of words (docs/MACHINE.md, "Programs as numbers").
 use Rattle.std.specs.Prelude.{◌≡◌, ◌≢◌, ◌<◌, ◌^◌, ◌∷◌, ◌⊎◌, List, [], decimal, length, ℕ}
 use Rattle.bpf_formats.specs.declared.fault.FormatFault.{FormatFault}
 use Rattle.bpf_formats.specs.declared.fault.FormatFault.TheVariants.{Count, OutOfMemory, Syntax}
@@ -6,11 +6,11 @@ use Rattle.bpf_formats.specs.Ddd.{SpellsFields}
 use Rattle.bpf_formats.specs.Hex.{SpellsDigits}
 use Rattle.bpf_formats.specs.Item.{AreWords, IsFirstOutOfForm, items_of}
 
--- the item that tells how many words there are
+-- the item that has the number of words
 abbrev pub IsCount : List ℕ → ℕ → Type 0
 IsCount item count = (count < 2 ^ 32) × (item ≡ decimal count)
 
--- the first item out of form: the first of all where it is no count, else one behind it
+-- the first item out of form: the first of all if it is no count, else one after it
 abbrev pub IsFirstOfDdd : List (List ℕ) → ℕ → Type 0
 IsFirstOfDdd [] line = ⊥
 IsFirstOfDdd (item ∷ items) line =

@@ -24,6 +24,6 @@ hex_digits (suc count) n = hex_digits count (n / 16) ++ digit_char (n % 16) ∷ 
 abbrev pub hex_line : ℕ → List ℕ
 hex_line it = hex_digits 16 it ++ 10 ∷ []
 
--- the one text that is printed of words: each on a line of its own
+-- the one text that is printed of words: each on a separate line
 abbrev pub hex_text : List ℕ → List ℕ
 hex_text words = flat_map hex_line words

@@ -16,6 +16,6 @@ initialiser code jt jf k =
 abbrev pub dd_line : ℕ → List ℕ
 dd_line it = initialiser (code_of it) (true_jump_of it) (false_jump_of it) (constant_of it)
 
--- the text that is printed of words: each on a line of its own
+-- the text that is printed of words: each on a separate line
 abbrev pub dd_text : List ℕ → List ℕ
 dd_text words = flat_map dd_line words

@@ -15,7 +15,7 @@ abbrev pub items_of : List ℕ → List (List ℕ)
 items_of [] = [] ∷ []
 items_of (b ∷ text) = if ends_item b then [] ∷ items_of text else with_front b (items_of text)
 
--- the items are these words, each spelled in a form; an empty item stands for nothing
+-- the items are these words, each spelled in a form; an empty item is no word
 abbrev pub AreWords : (List ℕ → ℕ → Type 0) → List (List ℕ) → List ℕ → Type 0
 AreWords Spells [] [] = Unit {0}
 AreWords Spells [] (word ∷ words) = ⊥
@@ -30,7 +30,7 @@ IsInForm Spells item = (item ≡ []) ⊎ ((word : ℕ) × Spells item word)
 abbrev pub IsOutOfForm : (List ℕ → ℕ → Type 0) → List ℕ → Type 0
 IsOutOfForm Spells item = (item ≢ []) × ((word : ℕ) → Spells item word → ⊥)
 
--- of items whose first one has the number n, the one with the number `line` is the first out of form
+-- among items whose first one has the number n, the one with the number `line` is the first out of form
 abbrev pub IsFirstOutOfForm : (List ℕ → ℕ → Type 0) → ℕ → List (List ℕ) → ℕ → Type 0
 IsFirstOutOfForm Spells n [] line = ⊥
 IsFirstOutOfForm Spells n (item ∷ items) line =

@@ -19,7 +19,7 @@ pub enum FormatFault {
 }
 
 impl FormatFault {
-    /// The code (docs/COMMANDS.md, "Refusals").
+    /// Returns the code (docs/COMMANDS.md, "Refusals").
     pub fn code(self) -> Code
         ensures { result ≡ format_code self }
     {

@@ -16,7 +16,7 @@ fn ends_item(b: u8) -> bool
     b == b'\n' || b == b','
 }
 
-/// Cuts the first item off a text, and gives what is left, or nothing where it was the last item.
+/// Cuts the first item off a text. Returns the item and the rest, or `None` for the rest if it was the last item.
 pub(crate) fn first_item(text: &[u8]) -> (&[u8], Option<&[u8]>)
     ensures items { items_of text.now ≡ result.0.now ∷ items_left result.1 }
     ensures shorter { left_len result.1 ≤ length text.now }
@@ -29,7 +29,7 @@ pub(crate) fn first_item(text: &[u8]) -> (&[u8], Option<&[u8]>)
     (text, None)
 }
 
-// A field in front of a space, and what stands behind the space.
+// Reads a field before a space. Returns the field and the text after the space.
 fn read_field(limit: u32, text: &[u8]) -> Option<(u32, &[u8])>
     ensures { MatchOption result
         ((n : ℕ) (rest : List ℕ) → n ≤ limit → text.now ≢ decimal n ++ 32 ∷ rest)

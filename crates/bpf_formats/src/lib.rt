@@ -39,7 +39,7 @@ fn ddd_words<A: Allocator>(alloc: A, text: &[u8]) -> Result<Vec<u64, A>, FormatF
     Ok(words)
 }
 
-/// Reads a program in decimal to words, which need not be a program: their number and what they do is `bpf_verify`'s matter.
+/// Reads words in decimal. The words need not be a program: `bpf_verify` checks that.
 ///
 /// `Err` is the first line out of form, of the count or of a word, else `Count`.
 pub fn read_ddd<A: Allocator>(alloc: A, text: &[u8]) -> Result<Vec<u64, A>, FormatFault>
@@ -57,8 +57,7 @@ fn hex_words<A: Allocator>(alloc: A, text: &[u8]) -> Result<Vec<u64, A>, FormatF
     read_words(alloc, Form::Hexadecimal, Some(text), 1)
 }
 
-/// Reads a program in hexadecimal to words, which need not be a program: their number and what they do is `bpf_verify`'s
-/// matter.
+/// Reads words in hexadecimal. The words need not be a program: `bpf_verify` checks that.
 ///
 /// `Err` is the first line out of form.
 pub fn read_hex<A: Allocator>(alloc: A, text: &[u8]) -> Result<Vec<u64, A>, FormatFault>

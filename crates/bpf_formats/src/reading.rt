@@ -24,7 +24,7 @@ fn read_word(form: Form, item: &[u8]) -> Option<u64>
     }
 }
 
-// Puts the word of item n behind the words before it.
+// Appends the word of item n to the words before it.
 fn push_word<A: Allocator>(
     words: &mut Vec<u64, A>,
     form: Form,

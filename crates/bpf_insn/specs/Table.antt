@@ -83,11 +83,11 @@ abbrev pub uses_in : List Entry → ℕ → Option Uses
 uses_in [] code = None
 uses_in (entry ∷ entries) code = if entry.code == code then Some entry.uses else uses_in entries code
 
--- what the instruction of a code uses, none where there is no such instruction
+-- the fields that the instruction of a code uses, none if there is no such instruction
 unfoldable pub uses_of : ℕ → Option Uses
 uses_of code = uses_in table code
 
--- the sum of the fields that are not used, which have to be 0 (this project's rule)
+-- the sum of the fields that are not used, which must be 0 (this project's rule)
 abbrev pub unused_sum : Uses → ℕ → ℕ → ℕ → ℕ
 unused_sum (uses_none insn) jt jf k = jt + jf + k
 unused_sum (uses_constant insn) jt jf k = jt + jf

@@ -173,8 +173,8 @@ fn tested(decoded: Option<Decoded>) -> Result<Insn, WordFault>
 }
 
 impl Insn {
-    /// Tells which instruction a word is, or why it is none: first a code of no instruction, then a field that the
-    /// instruction does not use and that is not 0 (docs/MACHINE.md, "Instruction words").
+    /// Decodes a word. `Err` is `BadOpcode` if no instruction has the word's code, else `StrayField` if a field that the
+    /// instruction does not use is not 0 (docs/MACHINE.md, "Instruction words").
     #[inline(always)]
     pub fn from_word(word: u64) -> Result<Insn, WordFault>
         ensures instruction { result ≡ instruction_of word }
@@ -187,7 +187,7 @@ impl Insn {
         tested(decode(word))
     }
 
-    /// Tells which instruction a word is that is known to be an instruction's. It tests no field.
+    /// Decodes a word that is known to be an instruction's. Tests no field.
     #[inline(always)]
     pub fn from_instruction_word(word: u64) -> Insn
         requires { IsInstructionWord word }
@@ -199,7 +199,7 @@ impl Insn {
         }
     }
 
-    /// Tells which instruction eight bytes are, read as a big-endian word, or why they are none, as `from_word` does.
+    /// Decodes eight bytes, read as a big-endian word, with the faults of `from_word`.
     pub fn from_bytes(bytes: [u8; 8]) -> Result<Insn, WordFault>
         ensures instruction { result ≡ instruction_of (from_be_bytes w64 bytes) }
         ensures bytes_round_trip { IfOk result (λ insn. to_be_bytes w64 (word_of insn) ≡ bytes) }

@@ -118,8 +118,8 @@ fn fitting_word(insn: Insn) -> u64
 }
 
 impl Insn {
-    /// Writes the instruction as a word: `code * 2^48 + jt * 2^40 + jf * 2^32 + k`, with 0 in each field that it does
-    /// not use. Inlined, so that the word of an instruction that stands in the source is a constant.
+    /// Writes the instruction as a word: `code * 2^48 + jt * 2^40 + jf * 2^32 + k`, with 0 in each field that the instruction does
+    /// not use. Inlined, so that the word of an instruction in the source is a constant.
     /// Why it is inlined: docs/INTERNALS.md, "A word is made where it is written".
     #[inline(always)]
     pub fn to_word(self) -> u64

@@ -11,26 +11,26 @@ pub enum Size {
     Byte,
 }
 
-/// What an operation makes of A and its operand. Sums, differences and products are modulo 2^32.
+/// An operation on A and its operand. Sums, differences and products are modulo 2^32.
 #[derive(Clone, Copy, Debug, PartialEq, Eq)]
 pub enum Operation {
     Add,
     Sub,
     Mul,
-    /// Division; by an X of 0 the program ends with 0.
+    /// Division. If the operand is X and X is 0, the program ends with 0.
     Div,
     Or,
     And,
-    /// Shift to the left; by an X of 32 or more it gives 0.
+    /// Shift to the left. If the operand is X and X is 32 or more, the result is 0.
     Lsh,
-    /// Shift to the right; by an X of 32 or more it gives 0.
+    /// Shift to the right. If the operand is X and X is 32 or more, the result is 0.
     Rsh,
-    /// Remainder; by an X of 0 the program ends with 0.
+    /// Remainder. If the operand is X and X is 0, the program ends with 0.
     Mod,
     Xor,
 }
 
-/// What a conditional jump asks of A and its operand, as unsigned numbers.
+/// The test of a conditional jump, on A and its operand as unsigned numbers.
 #[derive(Clone, Copy, Debug, PartialEq, Eq)]
 pub enum Test {
     /// They are equal (`BPF_JEQ`).
@@ -56,17 +56,17 @@ pub enum Operand {
 #[derive(Clone, Copy, Debug, PartialEq, Eq)]
 pub struct Offsets {
     // In the order of their bytes in a word, so that one shift takes both out.
-    /// Where the test does not hold.
+    /// If the test is false.
     pub jf: u8,
-    /// Where it holds.
+    /// If the test is true.
     pub jt: u8,
 }
 
 /// One instruction. The numbers are its constant, `k`.
 #[derive(Clone, Copy, Debug, PartialEq, Eq)]
 pub enum Insn {
-    /// `ld [k]`, `ldh [k]`, `ldb [k]`: A becomes the big-endian number at place `k` of the packet; where the packet lacks
-    /// one of its bytes, the program ends with 0.
+    /// `ld [k]`, `ldh [k]`, `ldb [k]`: A becomes the big-endian number at place `k` of the packet. If the packet lacks one of the
+    /// number's bytes, the program ends with 0.
     LoadAbsolute(Size, u32),
     /// `ld [x+k]`, `ldh [x+k]`, `ldb [x+k]`: the same at place X + `k`, an exact sum.
     LoadIndexed(Size, u32),
@@ -82,14 +82,14 @@ pub enum Insn {
     LoadXCell(u32),
     /// `ldx len`: X becomes the packet's number of bytes.
     LoadXLength,
-    /// `ldx 4*([k]&0xf)`: X becomes four times the low four bits of byte `k`, the length of an IPv4 header; where the
-    /// packet lacks the byte, the program ends with 0.
+    /// `ldx 4*([k]&0xf)`: X becomes four times the low four bits of byte `k`, the length of an IPv4 header. If the packet lacks the
+    /// byte, the program ends with 0.
     LoadXHeader(u32),
     /// `st M[k]`: scratch cell `k` becomes A.
     Store(u32),
     /// `stx M[k]`: scratch cell `k` becomes X.
     StoreX(u32),
-    /// `add #k`, `add x` and the others: A becomes what the operation makes of it.
+    /// `add #k`, `add x` and the others: A becomes the operation's result.
     Alu(Operation, Operand),
     /// `neg`: A becomes its negative, modulo 2^32.
     Negate,
@@ -99,7 +99,7 @@ pub enum Insn {
     CopyFromX,
     /// `ja +k`: skips `k` instructions.
     Jump(u32),
-    /// `jeq #k,jt,jf` and the others: skips as many instructions as the test says.
+    /// `jeq #k,jt,jf` and the others: skips `jt` instructions if the test is true, else `jf`.
     JumpIf(Test, Operand, Offsets),
     /// `ret #k`: the program ends with `k`.
     ReturnConstant(u32),

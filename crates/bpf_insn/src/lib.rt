@@ -1,7 +1,7 @@
-//! Instructions of classic BPF, the 64-bit words that hold them, and lists of words that are read one at a time
-//! (McCanne and Jacobson 1993; networking/filter.rst; docs/MACHINE.md).
+//! Instructions of classic BPF, the 64-bit words that encode them, and lists of words that are read one at a time (McCanne and
+//! Jacobson 1993; networking/filter.rst; docs/MACHINE.md).
 //!
-//! `Insn::from_word` tells which instruction a word is, or why it is none. No call takes memory.
+//! `Insn::from_word` decodes a word, or returns why it is no instruction. No call takes memory.
 #![tactic(auto)]
 
 mod decoding;

@@ -15,27 +15,28 @@ pub struct ReadyWords {
 ///
 /// An implementor writes `count` and `word`, and for contracts `words` and `rest`. `make_ready`, `is_ready` and `ready_word` have
 /// bodies that are right for every list. An implementor writes them itself, with `ready_from`, `ready_to` and `ready_shift`, if
-/// programs are to run faster over it.
+/// programs should run faster over it.
 pub trait Words {
     ghost use Rattle.bpf_insn.specs.declared.word_list.ReadyWords.{ReadyWords};
 
-    // What an implementor keeps beside its list: a type and a value for contracts alone.
+    // State that an implementor keeps beside its list: a type and a value for contracts alone.
+    // The reason: docs/INTERNALS.md, "A list of words has a rest".
     ghost Rest: { Type 0 } = { Unit {0} };
 
     ghost words: { Self → List ℕ };
 
     ghost rest: { Self → Rest };
 
-    // The ready words are those at the places from `ready_from` on that are less than `ready_to`. If an implementor does not say
-    // otherwise all words are ready: no list has more than this number.
+    // The ready words are those at the places from `ready_from` on that are less than `ready_to`. By default all words are ready:
+    // no list has more than this number.
     ghost ready_from: { Self → ℕ } = { λ _. 0 };
 
     ghost ready_to: { Self → ℕ } = { λ _. 2 ^ 64 - 1 };
 
-    // What is added to the place of a ready word to get its number.
+    // The number of a ready word is its place plus this.
     ghost ready_shift: { Self → ℕ } = { λ _. 0 };
 
-    /// Tells the number of words.
+    /// Returns the number of words.
     fn count(&self) -> usize
         ensures { result ≡ length (words self.now) };
 
@@ -49,11 +50,11 @@ pub trait Words {
         ensures ready_to { ready_to self.new ≡ ready_to self.old }
         ensures shift { ready_shift self.new ≡ ready_shift self.old };
 
-    /// Makes word `i` ready, and words after it, as many as it likes. `None` if it does not say which words are ready: then `word`
-    /// reads word `i`.
+    /// Makes word `i` ready, and as many words after it as the implementor likes. Returns `None` if the implementor does not say
+    /// which words are ready: then `word` reads word `i`.
     ///
-    /// Programs are run by this call and the next two. They go from each place to a later one, so an implementor may make it fast to
-    /// go on from a word that was read.
+    /// The machine runs programs by this call and the next two. A program goes from each place to a later one, so an implementor
+    /// may make it fast to go on from a word that was read.
     /// Why the default bodies are these: docs/INTERNALS.md, "Programs are run by three other calls".
     fn make_ready(&mut self, i: usize) -> Option<ReadyWords>
         requires { i < length (words self.old) }
@@ -69,8 +70,8 @@ pub trait Words {
         None
     }
 
-    /// Tests whether a number is less than the limit of the ready words. The word of that number is then ready, unless it is before
-    /// the first ready one; and so are all words between the two.
+    /// Tests whether a number is less than the limit of the ready words. If so, all words from the first ready one to the one of
+    /// that number are ready.
     ///
     /// If all words of a list are always ready, no test is needed.
     #[inline(always)]

@@ -1,4 +1,4 @@
--- What a program means: the machine of McCanne and Jacobson 1993, section 3, over the words that remain
+-- The meaning of a program: the machine of McCanne and Jacobson 1993, section 3, over the words that remain
 -- (networking/filter.rst, "BPF engine and instruction set"; docs/MACHINE.md, "The machine").
 use Rattle.std.specs.Prelude.{◌≡◌, ◌≢◌, ◌==◌, ◌+◌, ◌-◌, ◌*◌, ◌/◌, ◌%◌, ◌^◌, ◌≤◌, ◌∷◌, if◌then◌else◌, Bool, Err, List, None, Ok, Option, Result, Some, [], bit_and, bit_or, bit_xor, drop, length, nat_le, nat_lt, not, suc, zero, ℕ}
 use Rattle.bpf_insn.specs.declared.instruction.Insn.{Insn}
@@ -31,24 +31,24 @@ pub data Ending : Type 0 where
   Ret : ℕ → Ending
   Stuck : Ending
 
--- what one instruction does: the program ends, or goes on past some dropped words with these registers and cells
+-- the effect of one instruction: the program ends, or goes on past some dropped words with these registers and cells
 pub data Effect : Type 0 where
   goes_on : (dropped a x : ℕ) (cells : Cells) → Effect
   ends : Ending → Effect
 
--- the number that an operand stands for
+-- the value of an operand
 abbrev pub operand_value : Operand → ℕ → ℕ
 operand_value (K k) x = k
 operand_value X x = x
 
--- whether a test of A and its operand holds
+-- whether a test of A and its operand is true
 abbrev pub holds : Test → ℕ → ℕ → Bool
 holds Equal a operand = a == operand
 holds Greater a operand = nat_lt operand a
 holds GreaterOrEqual a operand = nat_le operand a
 holds CommonBit a operand = not (bit_and a operand == 0)
 
--- what an operation makes of two 32-bit numbers, none where it divides by zero
+-- the result of an operation on two 32-bit numbers, none if it divides by zero
 abbrev pub computed : Operation → ℕ → ℕ → Option ℕ
 computed Add a operand = Some ((a + operand) % 2 ^ 32)
 computed Sub a operand = Some ((a + 2 ^ 32 - operand) % 2 ^ 32)
@@ -84,7 +84,7 @@ abbrev pub x_or_stuck : Option ℕ → ℕ → Cells → Effect
 x_or_stuck None a cells = ends Stuck
 x_or_stuck (Some number) a cells = goes_on 0 a number cells
 
--- what an instruction does with these registers, cells and packet
+-- the effect of an instruction on these registers, cells and packet
 abbrev pub effect : Insn → ℕ → ℕ → Cells → List ℕ → Effect
 effect (LoadAbsolute size k) a x cells packet = a_or_end (packet_number packet size k) x cells
 effect (LoadIndexed size k) a x cells packet = a_or_end (packet_number packet size (x + k)) x cells
@@ -106,7 +106,7 @@ effect (JumpIf test operand offsets) a x cells packet = goes_on (if holds test a
 effect (ReturnConstant k) a x cells packet = ends (Ret k)
 effect ReturnA a x cells packet = ends (Ret a)
 
--- what a word does: one of no instruction is stuck
+-- the effect of a word: one of no instruction is stuck
 abbrev pub word_effect : Result Insn WordFault → ℕ → ℕ → Cells → List ℕ → Effect
 word_effect (Err fault) a x cells packet = ends Stuck
 word_effect (Ok insn) a x cells packet = effect insn a x cells packet
@@ -122,7 +122,7 @@ abbrev pub run_on : (ℕ → ℕ → ℕ → Cells → Run) → Effect → Run
 run_on rest (ends ending) = (ending, 1)
 run_on rest (goes_on dropped a x cells) = one_more (rest dropped a x cells)
 
--- the run over the words that remain once some of them are dropped; where none remains, it is stuck
+-- the run over the words that remain once some of them are dropped; if none remains, it is stuck
 -- The reason: docs/INTERNALS.md, "The meaning carries the number of dropped words".
 unfoldable pub run_after : ℕ → List ℕ → ℕ → ℕ → Cells → List ℕ → Run
 run_after dropped [] a x cells packet = (Stuck, 0)
@@ -130,7 +130,7 @@ run_after (suc dropped) (word ∷ words) a x cells packet = run_after dropped wo
 run_after zero (word ∷ words) a x cells packet =
     run_on (λ dropped' a' x' cells'. run_after dropped' words a' x' cells' packet) (word_effect (instruction_of word) a x cells packet)
 
--- what a list of words means with these registers and cells, and how many words it meets
+-- the meaning of a list of words with these registers and cells, and how many words it meets
 abbrev pub mean : List ℕ → ℕ → ℕ → Cells → List ℕ → Ending
 mean words a x cells packet = (run_after 0 words a x cells packet).0
 

@@ -14,7 +14,7 @@ abbrev pub big_endian_after : ℕ → List ℕ → ℕ
 big_endian_after n [] = n
 big_endian_after n (byte ∷ bytes) = big_endian_after (n * 256 + byte) bytes
 
--- the number that a packet has at a place, none where one of its bytes is missing
+-- the number that a packet has at a place, none if one of its bytes is missing
 abbrev pub packet_number : List ℕ → Size → ℕ → Option ℕ
 packet_number packet size place =
     if nat_le (place + byte_count size) (length packet) then Some (big_endian_after 0 (take (byte_count size) (drop place packet))) else None

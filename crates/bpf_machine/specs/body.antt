@@ -1,4 +1,4 @@
--- Models of the code: what the contracts of private functions cite. No public clause stands on them.
+-- Models of the code, which the contracts of private functions cite. No public clause cites them.
 pub mod ArrayMachine
 pub mod Next
 pub mod Running

@@ -36,7 +36,7 @@ fn shifted_right(a: u32, count: u32) -> u32
     if count < 32 { a >> count } else { 0 }
 }
 
-/// Computes an operation; a division by zero has no number.
+/// Computes an operation. Returns `None` for a division or a remainder by zero.
 #[inline(always)]
 pub fn compute(operation: Operation, a: u32, operand: u32) -> Option<u32>
     ensures { result ≡ computed operation a operand }

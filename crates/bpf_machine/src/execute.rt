@@ -1,4 +1,4 @@
-//! What one instruction does.
+//! The effect of one instruction.
 
 ghost use Rattle.std.specs.Prelude.{◌≡◌, ◌≤◌, List, Ok, if◌then◌else◌, length, ℕ};
 ghost use Rattle.bpf_insn.specs.declared.instruction.Insn.{Insn};
@@ -16,7 +16,7 @@ use bpf_insn::{Insn, Offsets, Test};
 /// The number of scratch cells, as a length.
 pub const CELL_COUNT: usize = bpf_verify::CELLS as usize;
 
-/// What comes after an instruction: the next one, the one behind so many more, or the program's end.
+/// The next step after an instruction: the next instruction, the one after so many more, or the program's end.
 #[derive(Clone, Copy)]
 pub enum Next {
     GoOn,
@@ -123,7 +123,7 @@ pub fn execute(
     }
 }
 
-/// The registers after an instruction, and what comes after it.
+/// The registers after an instruction, and the next step.
 #[derive(Clone, Copy)]
 pub struct Step {
     pub a: u32,
@@ -131,7 +131,8 @@ pub struct Step {
     pub next: Next,
 }
 
-/// Does the instruction of a word, as `execute` does. For words that are seldom run: not inlined, it leaves the registers to the others.
+/// Executes the instruction of a word, as `execute` does. For words that are seldom run: the call is not inlined, and so leaves the
+/// registers to the other words.
 #[cold]
 #[inline(never)]
 pub fn step_apart(word: u64, a: u32, x: u32, cells: &mut [u32; CELL_COUNT], packet: &[u8]) -> Step

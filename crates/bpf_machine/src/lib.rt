@@ -34,8 +34,8 @@ pub struct Outcome {
     pub steps: u32,
 }
 
-// Where a run stands: the place of the next instruction, how many instructions the jumps have passed over, and the registers. The
-// instructions before the place that no jump has passed over were met.
+// The state of a run: the place of the next instruction, how many instructions the jumps have passed over, and the registers. The
+// run has met the instructions before the place, except those passed over.
 #[derive(Clone, Copy)]
 struct Running {
     place: usize,
@@ -55,15 +55,15 @@ fn instruction<W: Words>(words: &W, from: usize, len: usize, place: usize, word:
     ensures cell { HasCell result }
     ensures decoded { instruction_of word ≡ Ok result }
 {
-    // They are named by the clauses alone.
+    // Only the clauses name these.
     let (_words, _from, _len, _place) = (words, from, len, place);
     Insn::from_instruction_word(word)
 }
 
 /// Runs the program of the `len` words from place `from` on, on a packet.
 ///
-/// The words are accepted ones (`bpf_verify::verify`), so the program never gets stuck. A load past the packet's end ends
-/// it with 0. Takes no memory.
+/// The words are accepted ones (`bpf_verify::verify`), so the program never gets stuck. A load past the packet's end ends the
+/// program with 0. Takes no memory.
 pub fn run<W: Words>(words: &mut W, from: usize, len: usize, packet: &[u8]) -> Outcome
     requires within { from + len ≤ length (W.words words.old) }
     requires accepted { IsAccepted (program_at (W.words words.old) from len) }
@@ -77,11 +77,11 @@ pub fn run<W: Words>(words: &mut W, from: usize, len: usize, packet: &[u8]) -> O
     run_copy::<W, 0>(words, from, len, packet)
 }
 
-/// The same. Each number is another copy of the machine's code.
+/// Runs a program as `run` does. Each number `COPY` is another copy of the machine's code.
 ///
-/// A copy that is called at one place of a program is inlined there. So what the words keep of themselves, as a section its row,
-/// lies in registers while the program runs, where the caller has the words as a local.
-/// What the copies are for: docs/INTERNALS.md, "A section keeps by value where words are".
+/// A copy that is called at a single place is inlined there. If the caller has the words as a local, their state, such as a
+/// section's row, then lies in registers while the program runs.
+/// Why there are copies: docs/INTERNALS.md, "A section keeps by value where words are".
 pub fn run_copy<W: Words, const COPY: usize>(
     words: &mut W,
     from: usize,
@@ -127,7 +127,7 @@ pub fn run_copy<W: Words, const COPY: usize>(
                 }
             }
         };
-        // If the program's last word is ready, so are all its words from here on. Then none of them is tested.
+        // If the program's last word is ready, so are all its words from here on, and none of them is tested.
         let last = from + (len - 1) + ready.shift;
         let (next, end) = if words.is_ready(last, ready.limit) {
             run_ready::<W, COPY, true>(words, from, len, packet, state, ready, &mut cells)
@@ -142,11 +142,12 @@ pub fn run_copy<W: Words, const COPY: usize>(
     }
 }
 
-// Runs the instructions as long as their words are ready. Tells where the run stands then, and the number that the program ended with, if
-// it did. The place is behind the last instruction that was met, or where that jumped to. At an end A and X are not told.
+// Runs the instructions as long as their words are ready. Returns the state of the run, and the number that the program ended with,
+// if it ended. The place is after the last instruction that was met, or that instruction's target if it jumped. If the program
+// ended, A and X are those from before the call.
 //
-// `ALL` says that the words are ready up to the program's end. Then the loop asks about none. Each copy is called at one place, and is
-// inlined there for that reason, as `run_copy` is where it is called.
+// `ALL` says that the words are ready up to the program's end, so the loop tests none. Each copy is called at one place, and is
+// inlined there for that reason, like `run_copy`.
 // Why there are two loops in one function, and calls that take numbers: docs/INTERNALS.md, "Programs are run by three other calls".
 fn run_ready<W: Words, const COPY: usize, const ALL: bool>(
     words: &mut W,

@@ -34,7 +34,7 @@ divisor_fault pc k = if k == 0 then Some (ZeroDivisor pc) else None
 abbrev pub shift_fault : ℕ → ℕ → Option Fault
 shift_fault pc k = if nat_lt k 32 then None else Some (BadShift pc)
 
--- what is wrong with an operation on a constant
+-- the fault of an operation on a constant
 abbrev pub constant_fault : ℕ → Operation → ℕ → Option Fault
 constant_fault pc Div k = divisor_fault pc k
 constant_fault pc Mod k = divisor_fault pc k
@@ -46,7 +46,7 @@ abbrev pub operand_fault : ℕ → Operation → Operand → Option Fault
 operand_fault pc operation (K k) = constant_fault pc operation k
 operand_fault pc operation X = None
 
--- what is wrong with an instruction at pc of a program of len instructions
+-- the fault of an instruction at pc of a program of len instructions
 abbrev pub instruction_fault : ℕ → ℕ → Insn → Option Fault
 instruction_fault len pc (LoadAbsolute size k) = absolute_fault pc k
 instruction_fault len pc (LoadCell k) = cell_fault pc k
@@ -58,7 +58,7 @@ instruction_fault len pc (Jump k) = targets_fault len pc (successors (Jump k) pc
 instruction_fault len pc (JumpIf test operand offsets) = targets_fault len pc (successors (JumpIf test operand offsets) pc)
 instruction_fault len pc _ = None
 
--- what is wrong with a word, by what it is read as
+-- the fault of a word, by what it is read as
 abbrev pub word_fault : ℕ → ℕ → Result Insn WordFault → Option Fault
 word_fault len pc (Err word_fault_of.BadOpcode) = Some (BadOpcode pc)
 word_fault len pc (Err word_fault_of.StrayField) = Some (StrayField pc)
@@ -82,7 +82,7 @@ IsFaultlessBelow program n = (pc : ℕ) → pc < n → IsFaultless program pc
 abbrev pub EndsInReturn : List ℕ → Type 0
 EndsInReturn program = (insn : Insn) × IsAt program (length program - 1) insn × IsReturn insn
 
--- the program never gets stuck: that its words are read without a fault means that they are words of instructions
+-- the program never gets stuck: since its words are read without a fault, they are words of instructions
 -- (`bpf_insn::instruction_words`)
 pub record IsAccepted (program : List ℕ) : Type 0 where
   pub not_empty : 0 < length program

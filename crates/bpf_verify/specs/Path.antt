@@ -1,11 +1,11 @@
--- Where instructions lead, and the paths of jumps through a program (networking/filter.rst, "BPF engine and instruction
+-- The successors of instructions, and the paths of jumps through a program (networking/filter.rst, "BPF engine and instruction
 -- set"). Targets are exact sums.
 use Rattle.std.specs.Prelude.{◌≡◌, ◌+◌, ◌++◌, ◌∷◌, ◌⊎◌, Contains, List, Ok, Some, [], drop, slice_get, take, ℕ}
 use Rattle.bpf_insn.specs.declared.instruction.Insn.{Insn}
 use Rattle.bpf_insn.specs.declared.instruction.Insn.TheVariants.{Jump, JumpIf, LoadCell, LoadXCell, ReturnA, ReturnConstant, Store, StoreX}
 use Rattle.bpf_insn.specs.Word.{instruction_of}
 
--- the program that stands in a list of words
+-- the program in a list of words
 abbrev pub program_at : List ℕ → ℕ → ℕ → List ℕ
 program_at words from len = take len (drop from words)
 
@@ -65,12 +65,12 @@ abbrev pub IsStoredOn : List ℕ → List ℕ → ℕ → Type 0
 IsStoredOn program [] cell = ⊥
 IsStoredOn program (pc ∷ places) cell = StoresAt program pc cell ⊎ IsStoredOn program places cell
 
--- on every path that comes to a load at pc, an earlier place stores the cell
+-- on every path to a load at pc, an earlier place stores the cell
 abbrev pub IsStoredBefore : List ℕ → ℕ → Type 0
 IsStoredBefore program pc =
     (cell : ℕ) → LoadsAt program pc cell → (earlier : List ℕ) → IsPath program (earlier ++ pc ∷ []) → IsStoredOn program earlier cell
 
--- pc loads a cell, and some path comes to it on which no earlier place stores the cell
+-- pc loads a cell, and there is a path to it on which no earlier place stores the cell
 abbrev pub IsUnstored : List ℕ → ℕ → Type 0
 IsUnstored program pc =
     (cell : ℕ) × LoadsAt program pc cell × ((earlier : List ℕ) × IsPath program (earlier ++ pc ∷ []) × (¬ IsStoredOn program earlier cell))

@@ -1,4 +1,4 @@
--- What a contract sees of a Program.
+-- A Program as contracts see it.
 use Rattle.std.specs.Prelude.{◌≤◌, List, length, ℕ}
 use Rattle.bpf_verify.specs.declared.TheConstants.{MAX_INSTRUCTIONS}
 use Rattle.bpf_verify.specs.Accepted.{IsAccepted}

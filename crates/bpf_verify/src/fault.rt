@@ -33,7 +33,7 @@ pub enum Fault {
 }
 
 impl Fault {
-    /// The code (docs/COMMANDS.md, "Refusals").
+    /// Returns the code (docs/COMMANDS.md, "Refusals").
     pub fn code(self) -> Code
         ensures { result ≡ verify_code self }
     {

@@ -1,7 +1,8 @@
 //! The verifier: which lists of words are classic BPF programs (networking/filter.rst, "BPF engine and instruction set";
-//! docs/MACHINE.md, "Verifier"). That such a program never gets stuck is a law of bpf_machine, `sound`.
+//! docs/MACHINE.md, "Verifier"). A law of bpf_machine, `sound`, says that such a program never gets stuck.
 //!
-//! `verify` tests words where they stand; a `Program` keeps words that passed. Only a `Program` holds memory, and only its `clone_in` takes any.
+//! `verify` tests words in place; a `Program` keeps words that passed. Only a `Program` owns memory, and only its `clone_in`
+//! takes any.
 #![tactic(auto)]
 
 ghost use Rattle.std.specs.Prelude.{◌≡◌, ◌+◌, ◌<◌, ◌≤◌, ◌^◌, ◌↔◌, IfErr, IfOk, IsOk, None, OnOk, Some, length, slice_get};
@@ -66,8 +67,8 @@ fn word_at<W: Words>(words: &mut W, from: usize, len: usize, pc: usize) -> u64
     words.word(from + pc)
 }
 
-// Checks any word, joins the set after it at its successors, and answers the first load of a cell that is not stored, and whether
-// the word is a return. Few words come here, so no loop has a copy of this code.
+// Checks any word, and joins the set after the word at its successors. Returns the first load of a cell that is not stored, and
+// whether the word is a return. Few words come here, so no loop has a copy of this code.
 #[inline(never)]
 fn check_any(
     stored: &mut [u16],
@@ -133,7 +134,7 @@ fn check_places<W: Words, const N: usize>(
     ensures rest_kept { W.rest words.new ≡ W.rest words.old }
 {
     let mut stored = [ALL_CELLS; N];
-    // The set that goes on from the place before: no cell to the first place, and all cells where none goes on.
+    // The set that the place before passes on: no cell for the first place, and all cells if nothing is passed on.
     let mut carried = 0;
     let mut unstored = None;
     let mut returns = false;
@@ -190,8 +191,8 @@ fn check_program<W: Words>(words: &mut W, from: usize, len: usize) -> Result<(),
 }
 
 /// Tests whether the `len` words from place `from` on are a program: the checks of the kernel's classic BPF checker
-/// (networking/filter.rst), with exact jump targets, and the additions that docs/DECISIONS.md lists under "Verifier".
-/// They ask for more than that no run gets stuck: also code that no run reaches is tested.
+/// (networking/filter.rst), with exact jump targets, and the additions of docs/DECISIONS.md, "The verifier refuses more". The checks
+/// require more than that no run gets stuck: code that no run reaches is tested too.
 ///
 /// `from` and `len` count words, a fault's `pc` counts instructions from `from`. `Err` is the fault of the length, else
 /// of the first instruction at fault, else `NoReturn`, else the first `UnstoredCell`. Takes no memory.

@@ -10,12 +10,12 @@ use crate::{ANCILLARY_FROM, CELLS};
 #[derive(Clone, Copy)]
 struct Plain {
     limit: u64,
-    // 1 where the instruction loads, or stores, scratch cell k; else 0.
+    // 1 if the instruction loads, or stores, scratch cell k; else 0.
     loads: u16,
     stores: u16,
 }
 
-// No word of the code is plain: it is of a jump, a return, or a division or a remainder by a constant, or of no instruction.
+// No word of the code is plain: the code is of a jump, a return, a division or a remainder by a constant, or no instruction.
 const NONE: Plain = Plain {
     limit: 0,
     loads: 0,
@@ -93,7 +93,7 @@ fn plain_of(code: usize) -> Plain
     PLAIN[code]
 }
 
-// The set after a plain word, where the set before has the cell that it loads. `None` says nothing of the word.
+// The set after a plain word, if the set before has the cell that the word loads. `None` says nothing about the word.
 /// The reason: docs/INTERNALS.md, "Most words are classified by their code".
 #[inline(always)]
 pub fn after_plain(word: u64, before: u16) -> Option<u16>

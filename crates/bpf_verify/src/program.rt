@@ -30,7 +30,7 @@ impl<A: Allocator> Model for Program<A> {
 }
 
 impl<A: Allocator> Program<A> {
-    /// Makes a program of accepted words, charged by their number. Other words come back with their first fault.
+    /// Makes a program of accepted words, charged by their number. Other words are returned with their first fault.
     pub fn new(words: Vec<u64, A>) -> Result<Program<A>, (Fault, Vec<u64, A>)>
         ensures program_exact { IsOk result ↔ IsAccepted words.items }
         ensures words_taken { IfOk result (λ program. program.words ≡ words.items) }
@@ -50,7 +50,7 @@ impl<A: Allocator> Program<A> {
         }
     }
 
-    /// Makes a program of words that are known to be accepted, with a charge of its own. Takes no memory.
+    /// Makes a program of words that are known to be accepted, with its own charge. Takes no memory.
     pub fn charged(words: Vec<u64, A>, charge: u32) -> Program<A>
         requires accepted { IsAccepted words.items }
         requires covers { length words.items ≤ charge }
@@ -72,7 +72,7 @@ impl<A: Allocator> Program<A> {
         })
     }
 
-    /// Lends the words.
+    /// Returns the words.
     pub fn words(&self) -> &[u64]
         ensures words { result.now ≡ self.now.words }
         ensures program { IsProgram self.now }
@@ -80,7 +80,7 @@ impl<A: Allocator> Program<A> {
         self.words.as_slice()
     }
 
-    /// Tells the charge, from the number of words to `MAX_INSTRUCTIONS`.
+    /// Returns the charge, from the number of words to `MAX_INSTRUCTIONS`.
     pub fn charge(&self) -> u32
         ensures charge { result ≡ self.now.charge }
         ensures program { IsProgram self.now }

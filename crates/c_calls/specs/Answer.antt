@@ -1,4 +1,4 @@
--- What a call from C answers: a list in the caller's buffer, or a fault as a number (include/dswitch.h).
+-- The result of a call from C: a list in the caller's buffer, or a fault as a number (include/dswitch.h).
 use Rattle.std.specs.Prelude.{◌≡◌, ◌+◌, ◌*◌, ◌<◌, ◌≤◌, ◌⊎◌, ◌++◌, Err, List, Ok, Result, drop, length, unwrap_or, ℕ}
 use Rattle.bpf_asm.specs.Text.{printed}
 use Rattle.bpf_verify.specs.Accepted.{IsAccepted}
@@ -22,7 +22,7 @@ done charge count = record { fault = 0; charge = charge; number = count }
 abbrev pub wanting : ℕ → ℕ → Answer
 wanting charge count = record { fault = 2; charge = charge; number = count }
 
--- a fault, and its line, place or pc, 0 where it has none
+-- a fault, and its line, place or pc, or 0 if it has none
 abbrev pub refused : ℕ → ℕ → Answer
 refused fault place = record { fault = fault; charge = 0; number = place }
 
@@ -42,9 +42,9 @@ abbrev pub text_answer : TextFault → Answer
 text_answer OutOfMemory = no_memory
 text_answer fault = code_answer (text_code fault)
 
--- ---- what is given
+-- ---- what is copied
 
--- the list stands in the front of the buffer, and behind it stands what stood there
+-- the list is in the front of the buffer, and the bytes after it are as they were
 pub record IsGiven {T : Type 0} (list : List T) (charge : ℕ) (before after : List T) (answer : Answer) : Type 0 where
   pub room : length list ≤ length before
   pub written : after ≡ list ++ drop (length list) before
@@ -59,7 +59,7 @@ pub record IsNotGiven {T : Type 0} (list : List T) (charge : ℕ) (before after 
 abbrev pub Gives : {T : Type 0} → List T → ℕ → List T → List T → Answer → Type 0
 Gives list charge before after answer = IsGiven list charge before after answer ⊎ IsNotGiven list charge before after answer
 
--- the program that was made is given, or its fault is answered
+-- the program that was made is copied, or its fault is returned
 abbrev pub GivesProgram : Result ProgramValue TextFault → List ℕ → List ℕ → Answer → Type 0
 GivesProgram (Ok program) before after answer = Gives program.words program.charge before after answer
 GivesProgram (Err fault) before after answer = (after ≡ before) × (answer ≡ text_answer fault)
@@ -70,7 +70,7 @@ HasProgram answer = (answer.fault ≡ 0) ⊎ (answer.fault ≡ 2)
 
 -- ---- the calls
 
--- the words are a program, or the answer has their first fault
+-- the words are a program, or the result has their first fault
 abbrev pub AnswersVerifying : List ℕ → Answer → Type 0
 AnswersVerifying words answer =
     (IsAccepted words × (answer ≡ done (length words) (length words)))
@@ -81,13 +81,13 @@ abbrev pub IsProgramOf : Source → ProgramValue → Type 0
 IsProgramOf (assembly text) program = IsProgramOfAssembly text program
 IsProgramOf (expression text) program = IsProgramOfExpression text program
 
--- a program of the text is given, or the buffer is as it was and the answer has the text's fault, or memory was refused
+-- a program of the text is copied, or the buffer is as it was and the result has the text's fault, or memory was refused
 pub data AnswersText (source : Source) (before after : List ℕ) (answer : Answer) : Type 0 where
   gives : (program : ProgramValue) → IsProgramOf source program → Gives program.words program.charge before after answer → AnswersText source before after answer
   refuses : (fault : TextFault) → IsFaultOfText source fault → after ≡ before → answer ≡ text_answer fault → AnswersText source before after answer
   wants : after ≡ before → answer ≡ no_memory → AnswersText source before after answer
 
--- the text of the program is given, or the buffer is as it was and the answer has the words' first fault, or memory was refused
+-- the text of the program is copied, or the buffer is as it was and the result has the words' first fault, or memory was refused
 pub data AnswersPrinting (words before after : List ℕ) (answer : Answer) : Type 0 where
   gives : IsAccepted words → Gives (printed words) (length words) before after answer → AnswersPrinting words before after answer
   refuses : (fault : Fault) → IsFirstFault words fault → after ≡ before → answer ≡ words_answer fault → AnswersPrinting words before after answer

@@ -1,4 +1,4 @@
--- What a call from C answers of a run (include/dswitch.h).
+-- The result of a run that C calls (include/dswitch.h).
 use Rattle.std.specs.Prelude.{◌≡◌, ◌<◌, ◌≤◌, List, length, ℕ}
 use Rattle.bpf_machine.specs.Meaning.{Ret, cost_of, ending_of}
 use Rattle.bpf_verify.specs.Accepted.{IsAccepted}
@@ -13,7 +13,7 @@ pub record IsRun (words packet : List ℕ) (outcome : Outcome) : Type 0 where
   pub value : ending_of words packet ≡ Ret outcome.value
   pub steps : outcome.steps ≡ cost_of words packet
 
--- the packet is too long; else the words were run, or the answer has their first fault. Where nothing was run the outcome is as it was
+-- the packet is too long; else the words were run, or the result has their first fault. If nothing was run, the outcome is as it was
 pub data AnswersRun (words packet : List ℕ) (before after : Outcome) (answer : Answer) : Type 0 where
   too_long : 65535 < length packet → after ≡ before → answer ≡ refused 3 0 → AnswersRun words packet before after answer
   ran : length packet ≤ 65535 → IsAccepted words → IsRun words packet after → answer ≡ done (length words) (length words) → AnswersRun words packet before after answer

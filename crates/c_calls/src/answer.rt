@@ -1,20 +1,20 @@
-//! What a call answers.
+//! The result of a call.
 
 ghost use Rattle.std.specs.Prelude.{◌≡◌};
 ghost use Rattle.c_calls.specs.Answer.{done, refused, wanting};
 
 use crate::codes::NO_ROOM;
 
-/// What a call answers.
+/// The result of a call.
 #[derive(Clone, Copy)]
 #[repr(C)]
 pub struct Answer {
-    /// 0, or a code: the letter of a fault's code times 256 and its number, as `'V' * 256 + 3` for V3, or `NO_MEMORY`, `NO_ROOM` or
-    /// `PACKET_TOO_LONG`.
+    /// 0, or a code: the letter of a fault's code times 256, plus its number, such as `'V' * 256 + 3` for V3; or `NO_MEMORY`,
+    /// `NO_ROOM` or `PACKET_TOO_LONG`.
     pub fault: u32,
-    /// The charge of the program, 0 where there is none.
+    /// The charge of the program, or 0 if there is none.
     pub charge: u32,
-    /// How many words or bytes there are, also at `NO_ROOM`; else the line, place or `pc` of the fault, 0 where it has none.
+    /// The number of words or bytes, also at `NO_ROOM`; else the line, place or `pc` of the fault, or 0 if the fault has none.
     pub number: u64,
 }
 

@@ -1,4 +1,4 @@
-//! Lists and programs that are given to the caller's buffer.
+//! Lists and programs that are copied to the caller's buffer.
 
 ghost use Rattle.c_calls.specs.Answer.{Gives, GivesProgram};
 
@@ -8,7 +8,7 @@ use bpf_verify::Program;
 use filter_program::TextFault;
 use std::alloc::Global;
 
-/// Copies a list to the front of a buffer where it has the room, and else leaves the buffer.
+/// Copies a list to the front of a buffer. If the buffer has too little room, leaves it unchanged.
 pub(crate) fn give<T: Copy>(list: &[T], charge: u32, buffer: &mut [T]) -> Answer
     ensures { Gives list.now charge buffer.old buffer.new result }
 {
@@ -19,7 +19,7 @@ pub(crate) fn give<T: Copy>(list: &[T], charge: u32, buffer: &mut [T]) -> Answer
     Answer::done(charge, list.len())
 }
 
-/// Copies the words of a program, where one was made.
+/// Copies the words of a program, if one was made.
 pub(crate) fn give_program(made: Result<Program<Global>, TextFault>, buffer: &mut [u64]) -> Answer
     ensures { GivesProgram made buffer.old buffer.new result }
 {

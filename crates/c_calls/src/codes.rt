@@ -10,7 +10,7 @@ use filter_program::TextFault;
 /// Memory was refused.
 pub const NO_MEMORY: u32 = 1;
 
-/// The caller's buffer is too small: the answer has the number of elements that are needed, and the buffer is as it was.
+/// The caller's buffer is too small. `Answer::number` is the number of elements that are needed, and the buffer is unchanged.
 pub const NO_ROOM: u32 = 2;
 
 /// The packet has more than 65,535 bytes.

@@ -46,10 +46,10 @@ pub fn verify_words(words: &[u64]) -> Answer
     }
 }
 
-/// Verifies words, and runs them on a packet where they are a program. The caller owes nothing. Takes no memory.
+/// Verifies words, and runs them on a packet if they are a program. There are no preconditions. Takes no memory.
 ///
-/// Where the packet has more than 65,535 bytes the answer is `PACKET_TOO_LONG`, whatever the words are. `outcome` is written only
-/// where the answer names no fault.
+/// If the packet has more than 65,535 bytes, returns `PACKET_TOO_LONG`, whatever the words are. Writes `outcome` only if there is
+/// no fault.
 pub fn run_checked(words: &[u64], packet: &[u8], outcome: &mut Outcome) -> Answer
     ensures answer { AnswersRun words.now packet.now outcome.old outcome.new result }
     ensures runs_exactly { result.fault ≡ 0 ↔ (IsAccepted words.now × (length packet.now ≤ 65535)) }
@@ -82,8 +82,8 @@ pub fn compile_into(alloc: Global, text: &[u8], words: &mut [u64]) -> Answer
     give_program(compiled(alloc, text), words)
 }
 
-/// Prints a program as assembly, in the caller's buffer, without a byte 0 behind it (`bpf_asm::print`). Words that are no program
-/// are answered with their fault.
+/// Prints a program as assembly to the caller's buffer, without a 0 byte at its end (`bpf_asm::print`). If the words are no
+/// program, returns their fault.
 pub fn print_into(alloc: Global, words: &[u64], text: &mut [u8]) -> Answer
     ensures answer { AnswersPrinting words.now text.old text.new result }
     ensures every_program { IsAccepted words.now → HasProgram result ⊎ (result ≡ no_memory) }

@@ -16,8 +16,8 @@ pub struct Outcome {
     pub steps: u32,
 }
 
-/// Runs a program on a packet (`bpf_machine::run`). The words are accepted ones, and the packet has at most 65,535 bytes: the
-/// caller owes both. Takes no memory.
+/// Runs a program on a packet (`bpf_machine::run`). The caller must ensure that the words are accepted, and that the packet has at
+/// most 65,535 bytes. Takes no memory.
 pub fn run_words(words: &[u64], packet: &[u8]) -> Outcome
     requires accepted { IsAccepted words.now }
     requires packet { length packet.now ≤ 65535 }

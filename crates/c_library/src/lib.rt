@@ -26,8 +26,8 @@ pub extern "C" fn dswitch_verify(words: &[u64]) -> Answer
     verify_words(words)
 }
 
-/// Runs a program on a packet (`bpf_machine::run`). The words are accepted ones, and the packet has at most 65,535 bytes: the
-/// caller owes both. Takes no memory.
+/// Runs a program on a packet (`bpf_machine::run`). The caller must ensure that the words are accepted, and that the packet has at
+/// most 65,535 bytes. Takes no memory.
 #[unsafe(no_mangle)]
 pub extern "C" fn dswitch_run(words: &[u64], packet: &[u8]) -> Outcome
     requires accepted { IsAccepted words.now }
@@ -38,10 +38,10 @@ pub extern "C" fn dswitch_run(words: &[u64], packet: &[u8]) -> Outcome
     run_words(words, packet)
 }
 
-/// Verifies words, and runs them on a packet where they are a program. The caller owes nothing. Takes no memory.
+/// Verifies words, and runs them on a packet if they are a program. There are no preconditions. Takes no memory.
 ///
-/// Where the packet has more than 65,535 bytes the answer is `PACKET_TOO_LONG`, whatever the words are. `outcome` is written only
-/// where the answer names no fault.
+/// If the packet has more than 65,535 bytes, returns `PACKET_TOO_LONG`, whatever the words are. Writes `outcome` only if there is
+/// no fault.
 #[unsafe(no_mangle)]
 pub extern "C" fn dswitch_run_checked(words: &[u64], packet: &[u8], outcome: &mut Outcome) -> Answer
     ensures answer { AnswersRun words.now packet.now outcome.old outcome.new result }
@@ -70,8 +70,8 @@ pub extern "C" fn dswitch_compile(alloc: Global, text: &[u8], words: &mut [u64])
     compile_into(alloc, text, words)
 }
 
-/// Prints a program as assembly, in the caller's buffer, without a byte 0 behind it (`bpf_asm::print`). Words that are no program
-/// are answered with their fault.
+/// Prints a program as assembly to the caller's buffer, without a 0 byte at its end (`bpf_asm::print`). If the words are no
+/// program, returns their fault.
 #[unsafe(no_mangle)]
 pub extern "C" fn dswitch_print(alloc: Global, words: &[u64], text: &mut [u8]) -> Answer
     ensures answer { AnswersPrinting words.now text.old text.new result }

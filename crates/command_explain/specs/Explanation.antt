@@ -50,6 +50,6 @@ IsExplanation code text = Contains explanations (code, text)
 abbrev pub Explains : List ℕ → List ℕ → Type 0
 Explains text code = take (length code + 2) text ≡ code ++ codes ": "
 
--- the text beside the first row of this code
+-- the text of the first row with this code
 abbrev pub text_beside : List Row → List ℕ → Option (List ℕ)
 text_beside rows code = option_map (λ row. row.1) (find (λ row. bytes_eq row.0 code) rows)

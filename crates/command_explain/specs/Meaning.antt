@@ -1,4 +1,4 @@
--- What a code means, in one sentence (docs/COMMANDS.md, "tell" and "Rules files").
+-- The meaning of a code, in one sentence (docs/COMMANDS.md, "tell" and "Rules files").
 use Rattle.std.specs.Prelude.{◌&&◌, ◌==◌, ◌||◌, ◌∷◌, ◌++◌, Bool, List, None, Option, Some, [], codes, decimal, false, if◌then◌else◌, true, ℕ}
 use Rattle.command_explain.specs.Explanation.{explanations, text_beside}
 

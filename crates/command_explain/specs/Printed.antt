@@ -1,4 +1,4 @@
--- A code as the program prints it: after `refused ` or `failed `, or without, and before the numbers that tell the place.
+-- A code as the program prints it: after `refused ` or `failed `, or without, and before the numbers that say the place.
 use Rattle.std.specs.Prelude.{◌≡◌, ◌<◌, ◌^◌, ◌++◌, Contains, IfSome, List, None, Option, Some, [], codes, decimal, ℕ}
 use Rattle.command_explain.specs.Explanation.{codes_explained}
 

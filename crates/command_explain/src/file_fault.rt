@@ -1,4 +1,5 @@
-//! What people read of a file that is refused: the place, the meaning of the code, and the line (docs/COMMANDS.md, "Rules files").
+//! The text for people about a file that is refused: the place, the meaning of the code, and the line
+//! (docs/COMMANDS.md, "Rules files").
 
 ghost use Rattle.std.specs.Prelude.{◌≡◌, ◌≤◌, IfOk, length};
 ghost use Rattle.command_explain.specs.Meaning.{file_line};
@@ -10,7 +11,7 @@ use std::alloc::{AllocError, Global};
 /// The most bytes of a line that are shown.
 pub const SHOWN_LIMIT: usize = 256;
 
-/// Where a file is at fault.
+/// The place of a file's fault.
 #[derive(Clone, Copy)]
 pub struct FaultPlace<'a> {
     /// The name of the file.
@@ -23,7 +24,7 @@ pub struct FaultPlace<'a> {
     pub line: &'a [u8],
 }
 
-// Where the part of a line that is shown begins, with this place in its middle if there is more on both sides.
+// Returns the start of the shown part of a line. The place is in the part's middle if there is more on both sides.
 fn shown_from(len: usize, place: usize) -> usize
     requires { place ≤ len }
     ensures before { result ≤ place }
@@ -36,7 +37,7 @@ fn shown_from(len: usize, place: usize) -> usize
     if middle < latest { middle } else { latest }
 }
 
-// Where it ends.
+// Returns the end of the shown part of a line.
 fn shown_to(len: usize, from: usize) -> usize
     requires { from ≤ len }
     ensures start { from ≤ result }
@@ -60,7 +61,7 @@ fn push_line(text: &mut Vec<u8>, place: FaultPlace<'_>) -> Result<(), AllocError
     };
     let from = shown_from(line.len(), at);
     let to = shown_to(line.len(), from);
-    // A place past what is shown has its caret after that.
+    // A place past the shown part has its caret after that part.
     let at = if at < to { at } else { to };
     let begin = text.len();
     push_shown(text, &line[from..at])?;
@@ -73,10 +74,11 @@ fn push_line(text: &mut Vec<u8>, place: FaultPlace<'_>) -> Result<(), AllocError
     text.extend_from_slice(b"^\n".as_slice())
 }
 
-/// The text for people about a line that is refused: `FILE:LINE:COLUMN: CODE: MEANING`, the line, and a caret under the place.
+/// Returns the text for people about a line that is refused: `FILE:LINE:COLUMN: CODE: MEANING`, the line, and a caret under the
+/// place.
 ///
-/// The code is without its place, as `P1`. The line is cut to `SHOWN_LIMIT` bytes round the place; a byte outside 0x20 to 0x7e is
-/// shown as `\xNN`. Each line of the text ends with LF.
+/// The code is without its place, such as `P1`. The line is cut to `SHOWN_LIMIT` bytes round the place; a byte outside 0x20 to 0x7e
+/// is shown as `\xNN`. Each line of the text ends with LF.
 pub fn line_fault_text(
     alloc: Global,
     place: FaultPlace<'_>,
@@ -93,7 +95,7 @@ pub fn line_fault_text(
     Ok(text)
 }
 
-/// The text for people about a file that is refused for no line: `FILE: CODE: MEANING`.
+/// Returns the text for people about a file that is refused for no line: `FILE: CODE: MEANING`.
 pub fn file_fault_text(alloc: Global, file: &str, code: &str) -> Result<Vec<u8>, AllocError>
     ensures { IfOk result (λ text. text.items ≡ file_line file.now code.now) }
 {

@@ -1,8 +1,9 @@
-//! What the codes of the program mean: of a refusal, a failure, or an answer of the libraries (docs/COMMANDS.md, "Failures" and
+//! The meaning of the program's codes: of a refusal, a failure, or a result of the libraries (docs/COMMANDS.md, "Failures" and
 //! "Refusals").
 //!
-//! `explanation` finds the text of a code, and `shown_code` the code in what the program prints. `line_fault_text` and `file_fault_text` show people a file that is refused. The codes and texts stand in two tables, in
-//! `table_to_h` and `table_from_i`.
+//! `explanation` finds the text of a code, and `shown_code` the code in what the program prints. `line_fault_text` and
+//! `file_fault_text` show people a file that is refused. The codes and texts are in two tables, in `table_to_h` and
+//! `table_from_i`.
 #![tactic(auto)]
 
 ghost use Rattle.std.specs.Prelude.{◌≡◌, ◌↔◌, Contains, IfSome, IsSome, map, option_map};
@@ -22,10 +23,10 @@ pub use shown::push_shown;
 use table_from_i::EXPLANATIONS_FROM_I;
 use table_to_h::EXPLANATIONS_TO_H;
 
-/// The explanation of a code: what it means, its usual cause and what to do, in lines of at most 80 bytes without the last line's
-/// end.
+/// Returns the explanation of a code: its meaning, its usual cause and what to do, in lines of at most 80 bytes, without the last
+/// line's end.
 ///
-/// The code is as it is printed, as `G3`: a capital letter, and a number from 1 on. `None` is for any other text.
+/// The code is as it is printed, such as `G3`: a capital letter, and a number from 1 on. Returns `None` for any other text.
 pub fn explanation(code: &str) -> Option<&'static str>
     ensures explained_exactly { IsSome result ↔ Contains codes_explained code.now }
     ensures explanation { IfSome result (λ text. IsExplanation code.now text.now) }

@@ -1,4 +1,4 @@
-//! What a code means, in one sentence (docs/COMMANDS.md, "tell" and "Rules files").
+//! The meaning of a code, in one sentence (docs/COMMANDS.md, "tell" and "Rules files").
 
 ghost use Rattle.std.specs.Prelude.{◌≡◌, ◌++◌, ◌≤◌, IfOk, OnOk, length, take};
 ghost use Rattle.command_explain.specs.Meaning.{begins_with_end, cause_line, ends_sentence, first_sentence, meaning_of};
@@ -39,7 +39,7 @@ fn sentence_length(text: &[u8]) -> usize
     text.len()
 }
 
-/// Appends the first sentence of the explanation of a code, which begins with the code; or the code, if it has none.
+/// Appends the first sentence of a code's explanation, which begins with the code; or the code alone, if it has no explanation.
 pub fn push_meaning(text: &mut Vec<u8>, code: &str) -> Result<(), AllocError>
     ensures { OnOk result (text.new.items ≡ text.old.items ++ meaning_of code.now) }
 {
@@ -50,8 +50,8 @@ pub fn push_meaning(text: &mut Vec<u8>, code: &str) -> Result<(), AllocError>
     text.extend_from_slice(&meaning[..sentence_length(meaning)])
 }
 
-/// The line for people about a line of the input with this number: `line NUMBER: CAUSE`, with LF. Without a number it is the cause
-/// alone.
+/// Returns the line for people about the line of the input with this number: `line NUMBER: CAUSE`, with LF. Without a number, the
+/// line is the cause alone.
 pub fn cause_line(alloc: Global, number: Option<u64>, cause: &[u8]) -> Result<Vec<u8>, AllocError>
     ensures { IfOk result (λ line. line.items ≡ cause_line number cause.now) }
 {

@@ -11,7 +11,7 @@ use crate::explanation;
 use ipv4_fields::split_at;
 use std::str::from_utf8;
 
-/// What a text shows.
+/// A code that a text shows.
 #[derive(Clone, Copy)]
 pub struct ShownCode<'a> {
     /// The code, a part of the text: a text that `explanation` explains.

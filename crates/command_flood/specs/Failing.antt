@@ -8,8 +8,8 @@ use Rattle.command_line.specs.Ending.{AppendsBeginning, line_of}
 abbrev pub IsRunFailure : Failure → Type 0
 IsRunFailure failure = (failure ≡ SpawnFailed) ⊎ (failure ≡ OutOfMemory)
 
--- a write failed, memory was refused, or a thread could not be started; where no write failed nothing was written, and a beginning
--- of the failure's line was told
+-- a write failed, memory was refused, or a thread could not be started; if no write failed nothing was written, and a beginning
+-- of the failure's line was written to standard error
 pub record EndsInFloodFailure (before after told_before told_after : Option (List ℕ)) : Type 0 where
   pub failure : Failure
   pub no_read : failure ≢ ReadFailed

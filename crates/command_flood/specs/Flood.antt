@@ -1,4 +1,4 @@
--- Of which jobs `flood` tells, and what it writes (docs/COMMANDS.md, "flood").
+-- The jobs whose totals `flood` writes, and the line of them (docs/COMMANDS.md, "flood").
 use Rattle.std.specs.Prelude.{◌≡◌, List, Option, Some, [], map, ℕ}
 use Rattle.std.specs.List.{All}
 use Rattle.dispatch.specs.declared.kind.Totals.{Totals}
@@ -25,12 +25,12 @@ shared_source workers datagrams worker = record { failures = 0; coming = Some (s
 abbrev pub empty_outbox : OutboxValue
 empty_outbox = record { failures = 0; taken = Some [] }
 
--- what the jobs of the first `count` of so many workers start with
+-- the starts of the jobs of the first `count` of so many workers
 pub record AreStartsOf (workers datagrams count : ℕ) (starts : List Parts) : Type 0 where
   pub shares : map (λ (start : Parts). start.source) starts ≡ map (shared_source workers datagrams) (numbers_below count)
   pub empty_outboxes : All (λ (start : Parts). start.outbox ≡ empty_outbox) starts
 
--- what the jobs of all of them start with
+-- the starts of the jobs of all of them
 abbrev pub AreStarts : ℕ → ℕ → List Parts → Type 0
 AreStarts workers datagrams starts = AreStartsOf workers datagrams workers starts
 

@@ -1,4 +1,4 @@
--- What the operator of `flood` does beside the workers (docs/COMMANDS.md, "flood").
+-- The steps of the operator of `flood` beside the workers (docs/COMMANDS.md, "flood").
 use Rattle.std.specs.Prelude.{◌≡◌, ◌<◌, ◌⊎◌, ◌∷◌, List, []}
 use Rattle.config_image.specs.Image.{Group}
 use Rattle.member_group.specs.Charge.{charge_of}

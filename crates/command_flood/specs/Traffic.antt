@@ -4,7 +4,7 @@ use Rattle.std.specs.List.{filter}
 use Rattle.command_line.specs.declared.sample.TheConstants.{SAMPLE_PACKET}
 use Rattle.command_flood.specs.declared.traffic.TheConstants.{CUT_LENGTH, OTHER_PORT, PORT_BYTE}
 
--- of each four: the sample packet twice, then with another destination port, then cut
+-- in each four: the sample packet twice, then with another destination port, then cut
 abbrev pub datagram_of_four : ℕ → List ℕ
 datagram_of_four turn =
     if turn == 2 then slice_set SAMPLE_PACKET.now PORT_BYTE OTHER_PORT
@@ -20,6 +20,6 @@ abbrev pub numbers_below : ℕ → List ℕ
 numbers_below zero = []
 numbers_below (suc n) = numbers_below n ++ n ∷ []
 
--- of so many datagrams, those that go to one of so many workers: number i goes to worker `i mod workers`
+-- the datagrams that go to one of so many workers: number i goes to worker `i mod workers`
 abbrev pub share_of : ℕ → ℕ → ℕ → List (List ℕ)
 share_of worker workers datagrams = map datagram_at (filter (λ i. i % workers == worker) (numbers_below datagrams))

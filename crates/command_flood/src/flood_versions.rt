@@ -40,7 +40,7 @@ fn joined(config: &Config, member: u32, port: u16) -> Result<Config, AllocError>
     applied(config, &join)
 }
 
-/// The sample group with members 1, 2 and 3 at 127.0.0.1, ports 9001, 9002 and 9003, without programs.
+/// Makes the sample group with members 1, 2 and 3 at 127.0.0.1, ports 9001, 9002 and 9003, without programs.
 pub fn opening(alloc: Global) -> Result<Config, AllocError>
     ensures { IfOk result (λ config. config ≡ opening_version) }
 {
@@ -75,7 +75,7 @@ fn selector(i: usize) -> &'static [u64]
     }
 }
 
-/// The versions that are to follow: the same group with the selectors `ret #0` and `ret #1` in turn.
+/// Makes the versions that follow: the same group with the selectors `ret #0` and `ret #1` in turn.
 pub fn successors(alloc: Global, opening: &Config) -> Result<Vec<Config>, AllocError>
     requires { opening.now ≡ opening_version }
     ensures { IfOk result (λ configs. configs.items ≡ map successor_at (numbers_below PUBLICATIONS)) }

@@ -23,7 +23,7 @@ use std::io::Write;
 use std::sync::Wait;
 use std::thread::Threads;
 
-// The table at its opening version, and the versions that are to follow.
+// The table at its opening version, and the versions that follow.
 fn open_versions(alloc: Global) -> Result<(Operator, Vec<Worker>, Vec<Config>), AllocError>
     ensures workers { IfOk result (λ opened. vec_len opened.1 ≡ WORKERS) }
     ensures opening { IfOk result (λ opened. All (IsNewWorker opening_version opened.0.table) opened.1.items) }
@@ -35,7 +35,7 @@ fn open_versions(alloc: Global) -> Result<(Operator, Vec<Worker>, Vec<Config>), 
     Ok((operator, workers, successors))
 }
 
-// Tries to publish each; where no row is free it goes on with the next.
+// Tries to publish each. If no row is free, goes on with the next one.
 fn publish_each(operator: &mut Operator, successors: Vec<Config>)
     ensures tried { AreTried successors.items operator.old operator.new }
 {
@@ -78,10 +78,10 @@ fn count_all<R: Threads + Wait + Sync, G: Gate + Sync>(
     }
 }
 
-/// Judges so many datagrams in the threads of so many workers, while the caller's thread tries to publish 64 versions, and
-/// writes the line of the totals. Datagram `i` goes to worker `i mod workers`.
+/// Judges `datagrams` datagrams in the threads of `workers` workers, while the caller's thread tries to publish 64 versions. Then writes
+/// the line of the totals. Datagram `i` goes to worker `i mod workers`.
 ///
-/// All memory but that of the threads is taken before one is started. It may wait, as `run_workers` does.
+/// Takes all memory but that of the threads before it starts one. May wait, as `run_workers` does.
 pub fn flood<R: Threads + Wait + Sync, G: Gate + Sync, W: Write>(
     rt: &R,
     alloc: Global,

@@ -26,7 +26,7 @@ fn datagram(alloc: Global, i: usize) -> Result<Vec<u8>, AllocError>
     Ok(datagram)
 }
 
-/// Makes the datagrams that go to one of so many workers, and tells how many they are.
+/// Makes the datagrams that go to one of `workers` workers, and counts them.
 pub fn share(
     alloc: Global,
     worker: usize,

@@ -317,7 +317,7 @@ number_in most text = if accepts false (Unsigned 1 most) text then Some (digits_
 abbrev pub workers_in : List Row → Option ℕ
 workers_in rows = number_in WORKERS (value_in rows (codes "workers"))
 
--- a second, where no other number is given
+-- a second, if no other number is given
 abbrev pub timeout_in : List Row → Option ℕ
 timeout_in rows = number_in MAX_TIMEOUT (unwrap_or (first_of (codes "timeout") rows) (codes "1"))
 
@@ -329,7 +329,7 @@ interval_in rows = number_in MAX_INTERVAL (unwrap_or (first_of (codes "interval"
 abbrev pub count_in : List Row → Option ℕ
 count_in rows = number_in (2 ^ 64 - 1) (unwrap_or (first_of (codes "count") rows) (codes "18446744073709551615"))
 
--- 4096 datagrams, where no other number is given
+-- 4096 datagrams, if no other number is given
 abbrev pub datagrams_in : List Row → Option ℕ
 datagrams_in rows = number_in MAX_DATAGRAMS (unwrap_or (first_of (codes "datagrams") rows) (codes "4096"))
 
@@ -359,7 +359,7 @@ unwrap_in rows = number_if_given MAX_PORT (first_of (codes "unwrap") rows)
 abbrev pub is_set : List Row → Text → Bool
 is_set rows id = bytes_eq (value_in rows id) (codes "true")
 
--- assembly text, where no other format is given
+-- assembly text, if no other format is given
 abbrev pub format_in : List Row → Text
 format_in rows = unwrap_or (first_of (codes "format") rows) (codes "asm")
 
@@ -458,7 +458,7 @@ command_named name rows =
     then top_in rows
     else None
 
--- a command is given a value that is none: `serve` a way to receive, or `spread` any of its values
+-- a command is given an invalid value: `serve` a way to receive, or `spread` any of its values
 abbrev pub has_bad_value : Text → List Row → Bool
 has_bad_value name rows =
     (bytes_eq name (codes "serve") && not (is_some (receive_in rows))) || (bytes_eq name (codes "spread") && not (is_some (spread_in rows)))
@@ -468,7 +468,7 @@ abbrev pub way_faults : Option (Text × List Row) → Kinds
 way_faults None = []
 way_faults (Some named) = if has_bad_value named.0 named.1 then InvalidValue ∷ [] else []
 
--- what `clap` finds in the words after the program's name, or else that fault: nothing, if they name a command
+-- the faults that `clap` finds in the words after the program's name, or else that fault: none, if they name a command
 abbrev pub faults_in : List Text → Kinds
 faults_in words = or_else (fault_of command_line words) (way_faults (subcommand_of command_line words))
 

@@ -1,4 +1,4 @@
--- What the words of `spread` are (docs/COMMANDS.md, "spread").
+-- The words of `spread` (docs/COMMANDS.md, "spread").
 use Rattle.std.specs.Prelude.{◌==◌, ◌∷◌, ◌&&◌, [], Bool, List, None, Option, Some, codes, false, if◌then◌else◌, length, nat_le, nat_lt, not, option_and_then, option_map, sum, true, ℕ}
 use Rattle.std.specs.List.{list_any}
 use Rattle.std.specs.Str.{bytes_eq}
@@ -36,7 +36,7 @@ depth_named text =
     then Some 8
     else None
 
--- what is hashed
+-- the fields that are hashed
 abbrev pub hash_named : Text → Option HashBy
 hash_named text =
     if bytes_eq text (codes "addresses")
@@ -85,7 +85,7 @@ members_among shares = if can_share shares && are_distinct shares then Some shar
 abbrev pub members_in : List Text → Option (List Share)
 members_in words = option_and_then members_among (shares_in words)
 
--- what `spread` is given: a depth, what is hashed, and the members
+-- the arguments of `spread`: a depth, the fields that are hashed, and the members
 abbrev pub Spread : Type 0
 Spread = ℕ × HashBy × List Share
 

@@ -27,6 +27,6 @@ abbrev pub add_control : List ℕ → List (List ℕ) → List (List ℕ)
 add_control address [] = []
 add_control address (name ∷ rest) = name ∷ codes "--control" ∷ address ∷ rest
 
--- the option stands after the command's name, if the command takes it and it was left out
+-- the option follows the command's name, if the command takes it and it was left out
 abbrev pub with_control : List ℕ → List (List ℕ) → List (List ℕ)
 with_control address words = if wants_control words then add_control address words else words

@@ -1,4 +1,4 @@
-//! The arguments of the commands, as `clap` is to read them.
+//! The arguments of the commands, as `clap` reads them.
 
 ghost use Rattle.std.specs.Prelude.{◌≡◌, codes, false};
 ghost use Rattle.clap.specs.Words.{rule_of};
@@ -12,7 +12,7 @@ use clap::{Arg, ArgAction};
 use std::alloc::Global;
 use versions::WORKERS;
 
-// A word that stands alone, and has to be there.
+// A word without an option before it, which is required.
 pub(crate) fn positional_argument<'a>(alloc: Global, name: &'a str, help: &'a str) -> Arg<'a>
     ensures rule { rule_of result ≡ required_argument name.entry.now }
     ensures local { result.global ≡ false }
@@ -136,7 +136,7 @@ pub(crate) fn address_argument<'a>(alloc: Global, name: &'a str, help: &'a str) 
         .help(help)
 }
 
-// `--NAME VALUE`, which has to be there.
+// `--NAME VALUE`, which is required.
 pub(crate) fn value_argument<'a>(
     alloc: Global,
     name: &'a str,
@@ -175,7 +175,7 @@ pub(crate) fn rules_argument<'a>(alloc: Global) -> Arg<'a>
         .help(help::SERVE_RULES)
 }
 
-// `--receive WAY`, where `clap` takes any text: a parser that has a list of names has a reference, which no definition can name.
+// `--receive WAY`. `clap` accepts any text here: a parser with a list of names has a reference, which no definition can name.
 // `read_words` refuses a text that names no way.
 pub(crate) fn receive_argument<'a>(alloc: Global) -> Arg<'a>
     ensures rule { rule_of result ≡ named_argument (codes "receive") }

@@ -1,4 +1,4 @@
-//! What `--help` says of the commands about tables of buckets: `spread` and `drain`.
+//! The text of `--help` for the commands about tables of buckets: `spread` and `drain`.
 
 pub const SPREAD: &str = "Make a selector that spreads packets over members by weight";
 

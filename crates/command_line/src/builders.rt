@@ -1,4 +1,4 @@
-//! The commands as `clap` is to read them: each with its arguments and its help, and the program with all of them.
+//! The commands as `clap` reads them: each with its arguments and its help, and the program with all of them.
 
 ghost use Rattle.std.specs.Prelude.{◌≡◌, IfOk, false};
 ghost use Rattle.clap.specs.Words.{App, Rule, app_of, new_app, rule_of, with_rule, with_subcommand};
@@ -25,8 +25,8 @@ fn plain_command<'a>(alloc: Global, name: &'a str, about: &'a str, more: &'a str
     Command::new(alloc, name).about(about).after_help(more)
 }
 
-// Adds an argument, where memory for the command was found. Commands go on without a test, since each `?` would have to drop
-// what is made.
+// Adds an argument, if memory for the command was found. The command is passed on untested, since each `?` would have to drop what
+// is made.
 fn with_argument<'a>(
     command: Result<Command<'a>, AllocError>,
     argument: Arg<'a>,
@@ -244,7 +244,7 @@ fn without_commands<'a>(alloc: Global) -> Result<Command<'a>, AllocError>
     )
 }
 
-// Adds a command, where memory for both was found.
+// Adds a command, if memory for both was found.
 fn with_command<'a>(
     program: Result<Command<'a>, AllocError>,
     command: Result<Command<'a>, AllocError>,

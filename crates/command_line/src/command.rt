@@ -22,7 +22,7 @@ pub const MAX_PORT: u64 = 65535;
 #[derive(Drop)]
 pub enum Query<'a> {
     First,
-    /// `format` is the name of a format as it is written, and `"asm"` where none is. So it is below.
+    /// `format` is the name of a format as it is written, or `"asm"` if there is none. The same is true of `format` below.
     Check {
         format: &'a str,
     },
@@ -114,7 +114,7 @@ pub enum Waiting<'a> {
         key: &'a str,
         member: &'a str,
     },
-    /// `front` is the front whose drops in the kernel are wanted, if they are.
+    /// `front` is the front whose drops in the kernel are wanted, if any.
     Metrics {
         control: &'a str,
         front: Option<&'a str>,

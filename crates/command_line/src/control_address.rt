@@ -1,4 +1,4 @@
-//! Where a switch is controlled: at a UDP address, or at the socket file of a path (docs/COMMANDS.md, "serve").
+//! The address of control: a UDP address, or the path of a socket file (docs/COMMANDS.md, "serve").
 
 ghost use Rattle.std.specs.Prelude.{MatchOption};
 ghost use Rattle.command_line.specs.ControlAddress.{IsNoControlAddress, SpellsControlAddress};
@@ -14,7 +14,7 @@ pub enum ControlAddress<'a> {
     Unix(&'a str),
 }
 
-// What stands before a path.
+// The prefix of a path.
 const UNIX: &str = "unix:";
 
 impl<'a> ControlAddress<'a> {

@@ -109,7 +109,7 @@ impl From<AllocError> for Failure {
     }
 }
 
-/// Tells that the arguments are no words: they are bytes, and words are text. `error` is what reading them ended with.
+/// Reports that an argument is not text, or that memory was refused. `error` is the error of reading the arguments.
 pub fn refuse_arguments<E: Write>(error: &io::Error, errs: &mut E) -> Status
     ensures no_memory { error_kind error.now ≡ ErrorKind.OutOfMemory → result ≡ Status.Failed }
     ensures not_text { error_kind error.now ≢ ErrorKind.OutOfMemory → result ≡ Status.Misused }

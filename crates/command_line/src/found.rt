@@ -268,7 +268,7 @@ fn top<'a>(found: &ArgMatches<'a>) -> Option<Subcommand<'a>>
     }))
 }
 
-// `tell` takes memory for its arguments, too.
+// `explain`, `spread` and `tell` take memory for their arguments.
 fn explain<'a>(alloc: Global, found: &ArgMatches<'a>) -> Result<Option<Subcommand<'a>>, AllocError>
     ensures { IfOk result (λ command. option_map command_of command ≡ Some (returning (explain (values_in (rows_of (found_of found.now)) (codes "WORD"))))) }
 {
@@ -371,7 +371,7 @@ fn spread_fault(alloc: Global, found: &ArgMatches) -> Result<Error, AllocError>
     command.error(ErrorKind::InvalidValue, message.as_str())
 }
 
-// The fault of a value that `clap` takes, and that is none.
+// The fault of a value that `clap` accepts, but that is invalid.
 fn value_fault(alloc: Global, name: &str, found: &ArgMatches) -> Result<Error, AllocError>
     ensures { IfOk result (λ fault. kind_of fault ≡ ErrorKind.InvalidValue) }
 {

@@ -1,4 +1,4 @@
-//! What `--help` says: what each command reads, what it prints, how it ends, and an example.
+//! The text of `--help`: what each command reads, what it prints, how it ends, and an example.
 
 pub const PROGRAM: &str =
     "A datagram switch whose classic BPF programs are replaced while traffic flows";

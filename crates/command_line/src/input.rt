@@ -7,7 +7,7 @@ use crate::ending::Failure;
 use std::alloc::Global;
 use std::io::{ErrorKind, Read};
 
-/// The bytes that are left of the input.
+/// Reads the bytes that are left of the input.
 pub fn read_whole<R: Read + Drop>(alloc: Global, mut input: R) -> Result<Vec<u8>, Failure>
     ensures whole { IfOk result (λ bytes. IsInput (R.remaining input) bytes.items) }
     ensures cause { IfErr result (λ failure. (failure ≡ Failure.ReadFailed) ⊎ (failure ≡ Failure.OutOfMemory)) }

@@ -1,7 +1,7 @@
 //! The program's command line: which command its words name, and how its run ends (docs/COMMANDS.md, "Statuses").
 //!
-//! `read_words` reads the words by `clap`. `Status` is the exit status, and `Failure` why a command failed, with the line that tells it.
-//! `SAMPLE_PACKET` is the packet of `first` and `flood`.
+//! `read_words` reads the words by `clap`. `Status` is the exit status. `Failure` is why a command failed, and can report it by a
+//! line. `SAMPLE_PACKET` is the packet of `first` and `flood`.
 #![tactic(auto)]
 
 ghost use Rattle.std.specs.Prelude.{◌≡◌};

@@ -1,4 +1,4 @@
-//! What `--help` says of the commands that make packets and find them in captures.
+//! The text of `--help` for the commands that make packets and find them in captures.
 
 pub const PACK: &str = "Make a packet of UDP for `run`, `replay` and `judge`";
 

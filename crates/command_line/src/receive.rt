@@ -6,12 +6,12 @@ ghost use Rattle.command_line.specs.declared.receive.TheConstants.{MAX_RECEIVE_B
 /// The most bytes of a socket's receive buffer that can be asked for: the range of the kernel's number.
 pub const MAX_RECEIVE_BUFFER: u32 = 2_147_483_647;
 
-/// Who receives the datagrams that come to the front.
+/// The receiver of the datagrams that come to the front.
 #[derive(Clone, Copy, Debug, PartialEq, Eq)]
 pub enum ReceiveWay {
     /// The caller's thread, which hands them to the workers in turn.
     Queued,
-    /// Each worker, from a socket of its own.
+    /// Each worker, from its own socket.
     Direct,
 }
 

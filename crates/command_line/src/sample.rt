@@ -22,7 +22,7 @@ pub const SAMPLE_GROUP: Endpoint = Endpoint {
     port: 53,
 };
 
-/// Makes a program of words that are known to be one, so but for want of memory.
+/// Makes a program of words that are known to be one. Fails only for lack of memory.
 pub fn program(alloc: Global, words: &[u64]) -> Result<Program<Global>, AllocError>
     requires accepted { IsAccepted words.now }
     ensures words { IfOk result (λ program. program.words ≡ words.now) }
@@ -34,7 +34,7 @@ pub fn program(alloc: Global, words: &[u64]) -> Result<Program<Global>, AllocErr
     }
 }
 
-/// Applies a command that is known not to be refused, but for want of memory.
+/// Applies a command that is known not to be refused. Fails only for lack of memory.
 pub fn applied(config: &Config, command: &Command) -> Result<Config, AllocError>
     requires { first_refusal command.now config.now ≡ None }
     ensures { IfOk result (λ next. next ≡ after command.now config.now) }

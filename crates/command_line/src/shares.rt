@@ -128,7 +128,7 @@ fn members_among(shares: Vec<Share>) -> Option<Vec<Share>>
     }
 }
 
-/// Reads what `spread` is given; `None` if a word is no good.
+/// Reads what `spread` is given. Returns `None` if a word is invalid.
 pub(crate) fn spreading_in(
     alloc: Global,
     buckets: &str,
@@ -153,7 +153,7 @@ pub(crate) fn spreading_in(
     Ok(Some(Spreading { depth, by, shares }))
 }
 
-// The message about the first word that is no good among those of members.
+// The message about the first invalid word among those of members.
 fn share_fault_text(alloc: Global, words: &[&str]) -> Result<String, AllocError> {
     let mut seen = Vec::new(alloc);
     for word in words {
@@ -181,7 +181,7 @@ fn share_fault_text(alloc: Global, words: &[&str]) -> Result<String, AllocError>
     )
 }
 
-/// The message about the first value of `spread` that is no good.
+/// Returns the message about the first invalid value of `spread`.
 pub(crate) fn fault_text(
     alloc: Global,
     buckets: &str,

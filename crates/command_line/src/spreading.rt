@@ -1,4 +1,4 @@
-//! What `spread` makes a selector of (docs/COMMANDS.md, "spread").
+//! The table of buckets that `spread` makes a selector of (docs/COMMANDS.md, "spread").
 
 ghost use Rattle.std.specs.Prelude.{◌≤◌};
 ghost use Rattle.selector_buckets.specs.declared.TheConstants.{DEPTH_LIMIT};

@@ -1,4 +1,4 @@
--- What each command answers (docs/COMMANDS.md).
+-- The result of each command (docs/COMMANDS.md).
 use Rattle.std.specs.Prelude.{◌≡◌, ◌++◌, ◌^◌, IsTrue, List, Option, codes, decimal, false, length, min, string_bytes, true, ℕ, ◌↔◌}
 use Rattle.bpf_asm.specs.Text.{printed}
 use Rattle.bpf_machine.specs.Meaning.{Ret, cost_of, ending_of}
@@ -69,7 +69,7 @@ IsListingOf format text (Listed listing) =
     (program : ProgramValue) × IsProgramOfExpression text program × (string_bytes listing ≡ listing_text format program.words)
 IsListingOf format text _ = ⊥
 
--- the charge stands in front of assembly text only
+-- the charge is in front of assembly text only
 abbrev pub IsCompileAnswer : OutputFormat → List ℕ → CommandResult → Type 0
 IsCompileAnswer Assembly text answer = IsAssemblyOf text answer
 IsCompileAnswer Ddd text answer = IsListingOf Ddd text answer

@@ -1,4 +1,4 @@
--- What `first` writes.
+-- The lines of `first`.
 use Rattle.std.specs.Prelude.{◌++◌, ◌∷◌, [], ℕ, List, codes, decimal}
 use Rattle.command_query.specs.declared.first_path.Line.{Line}
 

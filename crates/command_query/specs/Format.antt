@@ -68,7 +68,7 @@ IsFormatFault input.Assembly text fault = ⊥
 IsFormatFault input.Ddd text fault = IsFaultOfDdd text fault
 IsFormatFault input.Hex text fault = IsFaultOfHex text fault
 
--- how such a fault is told
+-- the report of such a fault
 abbrev pub misformed_text : FormatFault → List ℕ
 misformed_text fault = codes "refused " ++ code_text (format_code fault)
 

@@ -1,4 +1,4 @@
--- What `pack` prints, and why it refuses (docs/COMMANDS.md, "pack").
+-- The packet that `pack` prints, and why it refuses (docs/COMMANDS.md, "pack").
 use Rattle.std.specs.Prelude.{◌≡◌, ◌≢◌, ◌<◌, ◌⊎◌, List, None, Option, Some, [], length, string_bytes, ℕ}
 use Rattle.hex.specs.Hex.{encode_lower}
 use Rattle.control_line.specs.Packet.{IsRefusalOfHex, SpellsPacket}
@@ -20,7 +20,7 @@ pub record IsTextOf (text : List ℕ) (endpoint : Endpoint) : Type 0 where
 abbrev pub IsTextOfNone : List ℕ → Type 0
 IsTextOfNone text = (endpoint : Endpoint) → IsEndpoint endpoint → text ≢ endpoint_text endpoint
 
--- the payload is what the digits write, or the text; without both it is empty, and with both there is none
+-- the payload is what the digits spell, or the text; without both it is empty, and with both there is none
 abbrev pub IsPayload : (digits text : Option (List ℕ)) → List ℕ → Type 0
 IsPayload None None payload = payload ≡ []
 IsPayload (Some digits) None payload = SpellsPacket digits payload

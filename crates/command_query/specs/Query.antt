@@ -1,5 +1,5 @@
--- What a command makes of its arguments and its input: a result, or why there is none (docs/COMMANDS.md). `known` are the bytes of the
--- input, where they are known. `before` and `after` are what the output held before the command and holds after it, where that is known.
+-- The result of a command, by its arguments and its input, or why there is none (docs/COMMANDS.md). `known` are the bytes of the
+-- input, if they are known. `before` and `after` are the contents of the output before and after the command, if they are known.
 use Rattle.std.specs.Prelude.{◌≡◌, ◌++◌, ◌⊎◌, IsSome, IsSomeAnd, List, MatchOption, Option, codes, ℕ}
 use Rattle.std.specs.Io.KnownBytes.{Appends}
 use Rattle.control_line.specs.Packet.{IsRefusalOfHex, SpellsPacket}
@@ -29,7 +29,7 @@ abbrev pub IsFirstAnswer : CommandResult → Type 0
 IsFirstAnswer (Versions at_first at_second) = answer_text (Versions at_first at_second) ≡ first_text
 IsFirstAnswer _ = ⊥
 
--- the result of a command, where its input has these bytes
+-- the result of a command, if its input has these bytes
 abbrev pub IsResult : Request → List ℕ → CommandResult → Type 0
 IsResult first input answer = IsFirstAnswer answer
 IsResult (check name) input answer = IsSomeAnd (input_format_of name) (λ format. IsCheckAnswer format input answer)
@@ -56,7 +56,7 @@ abbrev pub IsRefusalOfInput : List ℕ → List ℕ → Reason → Type 0
 IsRefusalOfInput name text reason =
     MatchOption (input_format_of name) (reason ≡ BadForm) (λ format. IsRefusalOfProgram format text reason)
 
--- why it has none; the packet is looked at first, then the name of the format, then the program or the expression
+-- why it has none; the packet is tested first, then the name of the format, then the program or the expression
 abbrev pub IsRefusalReason : Request → List ℕ → Reason → Type 0
 IsRefusalReason first input reason = ⊥
 IsRefusalReason (check name) input reason = IsRefusalOfInput name input reason
@@ -81,7 +81,7 @@ IsMisformed (run digits name) input fault =
     × IsSomeAnd (input_format_of name) (λ format. IsFormatFault format input fault)
 IsMisformed _ input fault = ⊥
 
--- the input is read by `replay` and `packets`, by `check` where the format is known, and by `run` without an expression where the
+-- the input is read by `replay` and `packets`, by `check` if the format is known, and by `run` without an expression if the
 -- packet is good, too
 abbrev pub ReadsInput : Request → Type 0
 ReadsInput (check name) = IsSome (input_format_of name)
@@ -129,11 +129,11 @@ IsAnswerText request known Done text = (answer : CommandResult) × IsResultOf re
 IsAnswerText request known Refused text = IsRefusalLine request known text
 IsAnswerText request known _ text = ⊥
 
--- the command's text was written after what stood there before, and nothing else
+-- the command's text was appended to the output, and nothing else
 abbrev pub WritesAnswer : Request → Option (List ℕ) → Status → Option (List ℕ) → Option (List ℕ) → Type 0
 WritesAnswer request known status before after = (text : List ℕ) × IsAnswerText request known status text × Appends before after text
 
--- a command may fail in this way: reading fails only where it reads
+-- a command may fail in this way: reading fails only if it reads
 abbrev pub MayFail : Request → Failure → Type 0
 MayFail request ReadFailed = ReadsInput request
 MayFail request WriteFailed = Unit {0}
@@ -144,7 +144,7 @@ MayFail request PollFailed = ⊥
 MayFail request NoAnswer = ⊥
 MayFail request RulesChanged = ⊥
 
--- what a command with one result has written before each failure: nothing, but of a failed write nothing is promised
+-- the output of a command with one result before each failure: nothing, but for a failed write nothing is promised
 abbrev pub QueryWritesBefore : Failure → Option (List ℕ) → Option (List ℕ) → Type 0
 QueryWritesBefore WriteFailed before after = Unit {0}
 QueryWritesBefore failure before after = after ≡ before

@@ -1,4 +1,4 @@
-//! What a command finds, and the lines that tell it (docs/COMMANDS.md).
+//! The results of commands, and the lines that report them (docs/COMMANDS.md).
 
 ghost use Rattle.std.specs.Prelude.{Some};
 ghost use Rattle.command_query.specs.CommandResult.{answer_text};

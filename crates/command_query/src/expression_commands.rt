@@ -31,7 +31,7 @@ pub fn compile(alloc: Global, format: OutputFormat, text: &[u8]) -> Result<Comma
     }
 }
 
-/// Tells whether the expression is true of the packet, by running its program.
+/// Tests whether the expression is true of the packet, by running the expression's program.
 pub fn judge(alloc: Global, packet: &[u8], text: &[u8]) -> Result<CommandResult, Stop>
     requires { IsPacket packet.now }
     ensures answer { IfOk result (IsJudgeAnswer packet.now text.now) }

@@ -31,7 +31,7 @@ const FIRST_PROGRAM: &[u64] = &[
 // ret #0
 const SECOND_PROGRAM: &[u64] = &[0x0006_0000_0000_0000];
 
-/// What one version made of the packet.
+/// The result of one version for the packet.
 #[derive(Clone, Copy)]
 pub struct Line {
     pub version: u64,
@@ -96,7 +96,8 @@ fn publish_second(alloc: Global, operator: &mut Operator) -> Result<(), AllocErr
     }
 }
 
-// Runs the sample group's selector on the sample packet, from words that begin with an image. `None` where there is none.
+// Runs the sample group's selector on the sample packet, from words that begin with an image. Returns `None` if there is no
+// selector.
 fn run_selector<W: Words>(words: &mut W) -> Option<Outcome>
     requires { (config : List Group) × BeginsWithImage (W.words words.old) config }
     ensures runs { (config : List Group) (selector : List ℕ) → BeginsWithImage (W.words words.old) config → Selects selector config → IsRunOf selector result }

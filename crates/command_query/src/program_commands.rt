@@ -39,7 +39,7 @@ fn read_program(alloc: Global, format: InputFormat, text: &[u8]) -> Result<Progr
     }
 }
 
-/// Tells how many instructions the program has.
+/// Counts the instructions of the program.
 pub fn check(alloc: Global, format: InputFormat, text: &[u8]) -> Result<CommandResult, Stop>
     ensures answer { IfOk result (IsCheckAnswer format text.now) }
     ensures stopped { IfErr result (IsStopByProgram format text.now) }

@@ -27,7 +27,7 @@ use fault_code::Code;
 use std::alloc::Global;
 use std::io::{Read, Write};
 
-/// Writes the result of a command, or why it has none, and tells with which status it ends.
+/// Writes the result of a command, or why it has none, and returns the status that the command ends with.
 pub fn run_query<R: Read + Drop, W: Write>(
     alloc: Global,
     query: Query<'_>,
@@ -116,7 +116,7 @@ fn run_input<R: Read + Drop>(
     run_program(alloc, &packet, format, &read_whole(alloc, input)?)
 }
 
-// The packet that the digits write. They are looked at before anything is read.
+// Reads the packet that the digits spell. The digits are tested before anything is read.
 pub(crate) fn read_packet(alloc: Global, digits: &str) -> Result<Vec<u8>, Stop>
     ensures spelt { IfOk result (λ packet. SpellsPacket digits.now packet.items) }
     ensures refused { IfErr result (IsStopBy (IsRefusalOfHex digits.now)) }

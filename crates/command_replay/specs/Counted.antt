@@ -13,7 +13,7 @@ use Rattle.packet_verdict.specs.declared.verdict.Verdict.TheVariants.{Deliver, D
 use Rattle.read_section.specs.declared.operator.Reclaimed.{Reclaimed}
 use Rattle.control_summary.specs.Kind.{reply_kind}
 
--- the kind of a verdict: what its reply tells but the receiver and the bytes
+-- the kind of a verdict: its reply without the receiver and the bytes
 abbrev pub verdict_kind : Verdict → List ℕ
 verdict_kind Malformed = codes "malformed"
 verdict_kind NoGroup = codes "nogroup"
@@ -35,7 +35,7 @@ NamesMember judged = Unit {0}
 abbrev pub VerdictsAreCounted : Type 0
 VerdictsAreCounted = (version : ℕ) (judged : Verdict) → version < 2 ^ 64 → NamesMember judged → reply_kind (judged_text version judged) ≡ Some (verdict_kind judged)
 
--- so is the reply to a line that judges a malformed packet; for another packet it is the reply to a packet
+-- the reply to a line that judges a malformed packet is counted so, too; for another packet it is the reply to a packet
 abbrev pub MalformationsAreCounted : Type 0
 MalformationsAreCounted = (version : ℕ) (why : Malformation) → reply_kind (reply_text (PacketMalformed version why)) ≡ Some (verdict_kind Malformed)
 

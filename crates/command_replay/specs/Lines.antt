@@ -15,7 +15,7 @@ pub data AreRequestsOf (script : List ℕ) : List (List ℕ) → Type 0 where
   some_of : (requests : List (List ℕ)) (last : List ℕ) → All IsRequest requests → BeginsRequest last →
       with_last_lf script ≡ ended (requests ++ last ∷ []) → AreRequestsOf script (requests ++ last ∷ [])
 
--- one reply to each request, in their order, and where the script stands after the last
+-- one reply to each request, in their order, and the state of the script after the last
 pub data AreRepliesInTurn : List (List ℕ) → List (List ℕ) → Standing → Type 0 where
   no_reply : AreRepliesInTurn [] [] at_start
   one_reply_more : (requests replies : List (List ℕ)) (request reply : List ℕ) (now next : Standing) →

@@ -1,6 +1,6 @@
--- What `replay` writes, by its options `--summary` and `--quiet` (docs/COMMANDS.md, "replay"). Where two truth values stand, the
--- first says that `--summary` is given, the second that `--quiet` is. `known` are the bytes of the input, where they are known.
--- `before` and `after` are what the output held before the command and holds after it, where that is known.
+-- The output of `replay`, by its options `--summary` and `--quiet` (docs/COMMANDS.md, "replay"). If there are two truth values, the
+-- first says that `--summary` is given, the second that `--quiet` is. `known` are the bytes of the input, if they are known.
+-- `before` and `after` are the contents of the output before and after the command, if they are known.
 use Rattle.std.specs.Prelude.{◌≡◌, ◌++◌, ◌⊎◌, Bool, List, Option, [], false, true, ℕ}
 use Rattle.std.specs.Io.KnownBytes.{Appends}
 use Rattle.command_line.specs.Ending.{AppendsBeginning}
@@ -25,7 +25,7 @@ IsTextFor false true replies text = text ≡ []
 IsTextFor true false replies text = (summary : List ℕ) × IsSummaryOf replies summary × (text ≡ replies ++ summary)
 IsTextFor true true replies text = IsSummaryOf replies text
 
--- the status is 0, each request of the whole input was answered, and the text that the options ask for was written, and nothing else
+-- the status is 0, each request of the whole input has its reply, and the text that the options ask for was written, and nothing else
 pub record WritesScript (summary quiet : Bool) (known : Option (List ℕ)) (status : Status) (before after : Option (List ℕ)) : Type 0 where
   pub done : status ≡ Done
   pub replies : List ℕ
@@ -62,11 +62,11 @@ pub record WritesAllReplies (known before after : Option (List ℕ)) : Type 0 wh
 abbrev pub IsTextOfInput : Option (List ℕ) → List ℕ → Type 0
 IsTextOfInput known text = ((lines : List ℕ) × (last : Standing) × BeginsInput known lines × AreAnswered lines text last) ⊎ AreRepliesTo known text
 
--- of such replies a beginning was written, and nothing else
+-- a beginning of such replies was written, and nothing else
 abbrev pub WritesBeginningOfReplies : Option (List ℕ) → Option (List ℕ) → Option (List ℕ) → Type 0
 WritesBeginningOfReplies known before after = (text : List ℕ) × IsTextOfInput known text × AppendsBeginning before after text
 
--- each request of the whole input was answered; of the text that the options ask for a beginning was written, and nothing else
+-- each request of the whole input has its reply; a beginning of the text that the options ask for was written, and nothing else
 pub record WritesBeginningFor (summary quiet : Bool) (known before after : Option (List ℕ)) : Type 0 where
   pub replies : List ℕ
   pub text : List ℕ
@@ -81,7 +81,7 @@ RepliesBefore WriteFailed known before after = WritesBeginningOfReplies known be
 RepliesBefore OutOfMemory known before after = RepliesToFirstLines known before after
 RepliesBefore failure known before after = ⊥
 
--- with `--summary`: the same; but after all requests are answered, a write of the summary may fail, or memory for the summary be
+-- with `--summary`: the same; but after all requests have their replies, a write of the summary may fail, or memory for the summary be
 -- refused, and then the replies to all requests were written
 abbrev pub RepliesAndSummaryBefore : Failure → Option (List ℕ) → Option (List ℕ) → Option (List ℕ) → Type 0
 RepliesAndSummaryBefore ReadFailed known before after = RepliesToFirstLines known before after
@@ -89,7 +89,7 @@ RepliesAndSummaryBefore WriteFailed known before after = WritesBeginningOfReplie
 RepliesAndSummaryBefore OutOfMemory known before after = RepliesToFirstLines known before after ⊎ WritesAllReplies known before after
 RepliesAndSummaryBefore failure known before after = ⊥
 
--- with both: nothing, but where a write failed a beginning of the summary
+-- with both: nothing, but if a write failed a beginning of the summary
 abbrev pub SummaryBefore : Failure → Option (List ℕ) → Option (List ℕ) → Option (List ℕ) → Type 0
 SummaryBefore ReadFailed known before after = after ≡ before
 SummaryBefore WriteFailed known before after = WritesBeginningFor true true known before after

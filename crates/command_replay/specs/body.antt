@@ -1,3 +1,3 @@
--- Models of the code: what the contracts of private functions cite. No public clause stands on them.
+-- Models of the code, which the contracts of private functions cite. No public clause cites them.
 pub mod Failing
 pub mod Summarizing

@@ -10,7 +10,8 @@ use std::alloc::Global;
 use std::io::Write;
 use std::marker::{Brand, Model, PhantomData};
 
-/// What a writer held as a `CountedOutput` was made over it. The type tells it, since whoever writes tells only what is written.
+/// The contents of a writer when a `CountedOutput` was made over it. The type has them, since code that writes says only what it
+/// writes.
 /// The reason: docs/INTERNALS.md, "Texts and types that only contracts see".
 pub(crate) trait Opened {
     ghost opened: { Option (List ℕ) };
@@ -20,7 +21,7 @@ impl Opened for Brand {
     ghost opened = { None };
 }
 
-/// A writer, and the counts of the replies that it was written. It fails where the writer does.
+/// A writer, and the counts of the replies that were written to it. Fails if the writer does.
 pub(crate) struct CountedOutput<'a, W: Write, L: Opened> {
     output: ToWrite<'a, W>,
     counts: ReplyCounts,
@@ -59,7 +60,7 @@ impl<'a, W: Write, L: Opened> CountedOutput<'a, W, L> {
         }
     }
 
-    /// Hands back the writer, and the counts.
+    /// Returns the writer and the counts.
     pub(crate) fn into_parts(self) -> (&'a mut W, ReplyCounts)
         ensures same_reference { result.0.ghost_name ≡ self.entry.borrow }
         ensures counts { self.entry.output.failures < MOST_FAILURES → self.entry.output.taken ≡ Some result.1 }

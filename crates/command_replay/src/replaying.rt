@@ -11,8 +11,8 @@ use control::{FromRead, ReplayFault, ToWrite, replay};
 use std::alloc::Global;
 use std::io::{Read, Write};
 
-/// Answers each line of the input by one line. Where a summary is asked for it is written after the replies; and where these are
-/// not, in their place.
+/// Writes one reply to each request of the input. With `summary`, writes the summary after the replies. With `quiet`, writes no
+/// replies.
 pub fn run_replay<R: Read + Drop, W: Write>(
     alloc: Global,
     summary: bool,

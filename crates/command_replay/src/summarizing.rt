@@ -15,7 +15,7 @@ use std::alloc::Global;
 use std::io::{Read, Write};
 use std::marker::Brand;
 
-/// Answers each line of the input by one line, and writes the summary of the replies after them.
+/// Writes one reply to each request of the input, and the summary of the replies after them.
 pub fn summarize_replies<R: Read + Drop, W: Write>(
     alloc: Global,
     input: R,
@@ -30,7 +30,7 @@ pub fn summarize_replies<R: Read + Drop, W: Write>(
     write_summary(&counts, out)
 }
 
-/// Answers each line of the input, and writes the summary of the replies in their place.
+/// Replays each request of the input, and writes the summary of the replies in their place.
 pub fn summarize_alone<R: Read + Drop, W: Write>(
     alloc: Global,
     input: R,
@@ -45,7 +45,7 @@ pub fn summarize_alone<R: Read + Drop, W: Write>(
     write_summary(&counts, out)
 }
 
-// Answers each line by one line, and counts the replies.
+// Writes one reply to each request, and counts the replies.
 fn count_written<L: Opened, R: Read + Drop, W: Write>(
     alloc: Global,
     input: R,

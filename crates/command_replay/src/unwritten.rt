@@ -46,7 +46,7 @@ impl Output for CountsAlone {
     }
 }
 
-/// Answers each line of the input, and writes nothing.
+/// Replays each request of the input, and writes nothing.
 pub fn replay_unwritten<R: Read + Drop>(alloc: Global, input: R) -> Result<Status, Failure>
     ensures failed { IfErr result (λ failure. (failure ≡ Failure.ReadFailed) ⊎ (failure ≡ Failure.OutOfMemory)) }
     ensures done { IfOk result (λ status. status ≡ Status.Done) }
@@ -58,7 +58,7 @@ pub fn replay_unwritten<R: Read + Drop>(alloc: Global, input: R) -> Result<Statu
     }
 }
 
-/// Answers each line of the input, and counts the replies.
+/// Replays each request of the input, and counts the replies.
 pub fn count_replies<R: Read + Drop>(alloc: Global, input: R) -> Result<ReplyCounts, Failure>
     ensures failed { IfErr result (λ failure. (failure ≡ Failure.ReadFailed) ⊎ (failure ≡ Failure.OutOfMemory)) }
     ensures replied { IfOk result (AreRepliesTo (R.remaining input)) }

@@ -1,6 +1,6 @@
--- What a command does with its words and its input: what it writes, and how it may fail (docs/COMMANDS.md). `known` are the bytes of the
--- input, where they are known. `before` and `after` are what the output held before the command and holds after it, where that is
--- known; `told_before` and `told_after` are the same of standard error.
+-- The effect of a command, by its words and its input: what it writes, and how it may fail (docs/COMMANDS.md). `known` are the bytes of
+-- the input, if they are known. `before` and `after` are the contents of the output before and after the command, if they are known;
+-- `told_before` and `told_after` are the same of standard error.
 use Rattle.std.specs.Prelude.{◌≡◌, ◌⊎◌, List, Option, Some, [], ℕ}
 use Rattle.clap.specs.Words.{Text}
 use Rattle.command_line.specs.declared.ending.Failure.{Failure}
@@ -17,12 +17,12 @@ use Rattle.command_query.specs.Query.{QueryWritesBefore, ReadsInput, WritesAnswe
 abbrev pub WritesPackets : Option ℕ → Option (List ℕ) → Status → Option (List ℕ) → Option (List ℕ) → Type 0
 WritesPackets unwrap known status before after = (file : List ℕ) × IsInput known file × WritesText unwrap file status before after
 
--- the input was read to its end, and a beginning of the counts of that file was told, and nothing else; nothing where its header is at
--- fault
+-- the input was read to its end, and a beginning of the counts of that file was written to standard error, and nothing else; nothing if
+-- its header is at fault
 abbrev pub TellsCountsOf : Option ℕ → Option (List ℕ) → Option (List ℕ) → Option (List ℕ) → Type 0
 TellsCountsOf unwrap known before after = (file : List ℕ) × IsInput known file × TellsCounts unwrap file before after
 
--- what a command has written that ends with a status
+-- the output of a command that ends with a status
 abbrev pub Writes : Request → Option (List ℕ) → Status → Option (List ℕ) → Option (List ℕ) → Type 0
 Writes (replay summary quiet) known status before after = WritesScript summary quiet known status before after
 Writes (packets unwrap) known status before after = WritesPackets unwrap known status before after
@@ -50,7 +50,7 @@ MayFailBy words RulesChanged = ⊥
 
 -- ---- what a command that failed has written
 
--- of the packets of the input, those of some first records were written, and nothing else
+-- the packets of some first records of the input were written, and nothing else
 abbrev pub WritesFirstPackets : Option ℕ → Option (List ℕ) → Option (List ℕ) → Option (List ℕ) → Type 0
 WritesFirstPackets unwrap known before after = (file : List ℕ) × IsInput known file × WritesFirst unwrap file before after
 
@@ -63,7 +63,7 @@ PacketsWriteBefore unwrap OutOfMemory known before after = (after ≡ before) �
 PacketsWriteBefore unwrap WriteFailed known before after = BeginsPackets unwrap known before after
 PacketsWriteBefore unwrap failure known before after = QueryWritesBefore failure before after
 
--- what was written before each failure: what is promised of a failed write is promised of `replay` and `packets` alone
+-- the output before each failure: what is promised of a failed write is promised of `replay` and `packets` alone
 abbrev pub WritesBefore : Request → Failure → Option (List ℕ) → Option (List ℕ) → Option (List ℕ) → Type 0
 WritesBefore (replay summary quiet) failure known before after = ReplayWritesBefore summary quiet failure known before after
 WritesBefore (packets unwrap) failure known before after = PacketsWriteBefore unwrap failure known before after
@@ -75,7 +75,7 @@ WritesBeforeBy words failure known before after =
     (faults_in words ≡ [] → (request : Request) → command_in words ≡ Some (returning request) → WritesBefore request failure known before after)
     × (AskToWait words → after ≡ before)
 
--- a command failed in a way in which it may; a beginning of the failure's line was told
+-- a command failed in a way in which it may; a beginning of the failure's line was written to standard error
 pub record EndsInFailure (words : List Text) (known before after told_before told_after : Option (List ℕ)) : Type 0 where
   pub failure : Failure
   pub may_fail : MayFailBy words failure

@@ -10,7 +10,8 @@ use packet_capture::print_packets;
 use std::alloc::Global;
 use std::io::{Read, Write};
 
-/// Writes the packets of the file that the input is, or those that datagrams to a port carry, and its counts to `errs`.
+/// Writes the packets of the capture file on the input, or those that datagrams to a port carry. Writes the file's counts to
+/// `errs`.
 pub fn run_packets<R: Read + Drop, W: Write, E: Write>(
     alloc: Global,
     unwrap: Option<u16>,

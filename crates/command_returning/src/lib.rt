@@ -68,7 +68,7 @@ pub fn run_returning<'a, R: Read + Drop, W: Write, E: Write>(
     }
 }
 
-/// As `run_returning`; `None` if the words ask for a command that may wait.
+/// Runs the words as `run_returning` does. Returns `None` if they ask for a command that may wait.
 pub fn tool<R: Read + Drop, W: Write, E: Write>(
     alloc: Global,
     words: &[String],

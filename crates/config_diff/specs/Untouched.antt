@@ -1,4 +1,4 @@
--- What commands leave untouched: groups that no command names, and members that none names.
+-- The groups and members that commands leave untouched: groups that no command names, and members that none names.
 use Rattle.std.specs.Prelude.{◌==◌, ◌≡◌, All, Bool, List, Some, [], false, filter, take, ℕ}
 use Rattle.ipv4_fields.specs.declared.endpoint.Endpoint.{Endpoint}
 use Rattle.ipv4_fields.specs.Endpoint.{endpoint_number}

@@ -1,8 +1,8 @@
 //! The diff of two configurations: the commands that lead from one to the other, applied one after another (docs/SWITCH.md,
 //! "Groups, members, commands and refusals").
 //!
-//! Its clauses see each program by its words. The definitions are in `specs/`: `LeadTo` says what it means that commands lead
-//! to a configuration, `commands_of` are the rules that a rules file has of one.
+//! Its clauses see each program by its words. The definitions are in `specs/`: `LeadTo` says when commands lead to a configuration, and
+//! `commands_of` are the rules that a rules file has for one.
 #![tactic(auto)]
 
 ghost use Rattle.std.specs.Prelude.{◌≡◌, IfOk, []};
@@ -23,11 +23,11 @@ use std::alloc::Allocator;
 /// Returns the commands that lead from `from` to `to`. None of them is refused, and the members are in the order of `to` at the end.
 ///
 /// First the groups that `to` lacks are removed. Then, in rising order of key, each group of `to` is added or changed. A member
-/// stays if it has the same number and endpoint as the one wanted at its index, and it is not locked, or is to stay locked with the
-/// same filter. From the first member of a group that cannot stay on, all leave, the last one first, and those wanted join.
+/// stays if it has the number and endpoint of the one wanted at its index, and is not locked, or is to stay locked with the same
+/// filter. From the first member of a group that cannot stay on, all leave, the last one first, and those wanted join.
 ///
-/// Two programs of the same words are the same program, also if their charges differ. The commands lend the programs of `to`: only
-/// the list takes memory, from `alloc`. They are meant as one change, since a configuration on the way may have a greater charge
+/// Two programs of the same words are the same program, also if their charges differ. The commands borrow the programs of `to`: only
+/// the list takes memory, from `alloc`. Apply the commands as one change, since a configuration on the way may have a greater charge
 /// than both ends.
 pub fn diff<'a, A: Allocator, B: Allocator, C: Allocator>(
     alloc: C,

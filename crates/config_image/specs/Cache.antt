@@ -1,4 +1,4 @@
--- What a cache of extents has, and for which places.
+-- The extents in a cache, and the places that they are for.
 use Rattle.std.specs.Prelude.{◌≡◌, ◌≢◌, ◌+◌, ◌/◌, ◌%◌, ◌<◌, ◌≤◌, List, ℕ}
 use Rattle.std.specs.List.{Contains}
 use Rattle.config_image.specs.declared.pages.cache.TheConstants.{SLOTS}
@@ -15,7 +15,7 @@ pub record CacheValue : Type 0 where
 abbrev pub slot_of : ℕ → ℕ
 slot_of place = (place % SLOTS + place / SLOTS) % SLOTS
 
--- places that are less than 1023 apart have slots of their own
+-- places that are less than 1023 apart have different slots
 abbrev pub SlotsApart : Type 0
 SlotsApart = (place later : ℕ) → place < later → later < place + 1023 → slot_of place ≢ slot_of later
 

@@ -11,17 +11,17 @@ use Rattle.config_image.specs.declared.TheConstants.{ROW_WORDS}
 abbrev pub Group : Type 0
 Group = GroupOf ProgramValue
 
--- the words of a program, none where there is no program
+-- the words of a program, none if there is no program
 abbrev pub words_of : Option ProgramValue → List ℕ
 words_of None = []
 words_of (Some program) = program.words
 
--- the reference of a program that stands at a place of the image: the place, and behind it 16 bits of length; 0 for none
+-- the reference of a program at a place of the image: the place, and after it 16 bits of length; 0 for none
 abbrev pub reference : ℕ → Option ProgramValue → ℕ
 reference place None = 0
 reference place (Some program) = place * 65536 + length program.words
 
--- a group's programs, one behind the other: its selector, then the filters in index order
+-- a group's programs, one after the other: its selector, then the filters in index order
 abbrev pub filter_words : List (Member ProgramValue) → List ℕ
 filter_words [] = []
 filter_words (member ∷ rest) = words_of member.filter ++ filter_words rest
@@ -41,12 +41,12 @@ group_records members place (group ∷ rest) =
     endpoint_number group.key ∷ members ∷ length group.members ∷ reference place group.selector
     ∷ group_records (members + MEMBER_WORDS * length group.members) (place + length (group_program_words group)) rest
 
--- 1 where a member is locked, else 0
+-- 1 if a member is locked, else 0
 abbrev pub lock_word : Bool → ℕ
 lock_word true = 1
 lock_word false = 0
 
--- four words a member: its number, where its packets are sent, its filter's reference, its lock; the first filter begins at
+-- four words a member: its number, the destination of its packets, its filter's reference, its lock; the first filter begins at
 -- this place
 abbrev pub member_records : ℕ → List (Member ProgramValue) → List ℕ
 member_records place [] = []
@@ -54,14 +54,14 @@ member_records place (member ∷ rest) =
     member.id ∷ endpoint_number member.to ∷ reference place member.filter ∷ lock_word member.locked
     ∷ member_records (place + length (words_of member.filter)) rest
 
--- the member records of one group behind those of the other; the programs of the first group begin at this place
+-- the member records of one group after those of the other; the programs of the first group begin at this place
 abbrev pub all_member_records : ℕ → List Group → List ℕ
 all_member_records place [] = []
 all_member_records place (group ∷ rest) =
     member_records (place + length (words_of group.selector)) group.members
     ++ all_member_records (place + length (group_program_words group)) rest
 
--- where the member records begin, and the programs
+-- the place of the first member record, and the place of the programs
 abbrev pub members_begin : List Group → ℕ
 members_begin config = HEAD_WORDS + GROUP_WORDS * length config
 
@@ -80,7 +80,7 @@ image config =
 unfoldable pub row : List Group → List ℕ
 row config = take ROW_WORDS (image config ++ replicate ROW_WORDS 0)
 
--- words that begin with one image are no longer image: of images, that is of lists of words, none begins another. Two
--- configurations may have one image, since it does not hold what programs are charged.
+-- words that begin with one image are no longer image: among images, that is among lists of words, none begins another. Two
+-- configurations may have one image, since an image does not contain what programs are charged.
 abbrev pub NoImageBeginsAnother : Type 0
 NoImageBeginsAnother = (config other : List Group) (rest : List ℕ) → image other ≡ image config ++ rest → image other ≡ image config

@@ -1,4 +1,4 @@
--- What is found again in words that begin with the image of a configuration.
+-- Lookups in words that begin with the image of a configuration.
 use Rattle.std.specs.Prelude.{◌≡◌, ◌++◌, ◌+◌, ◌-◌, ◌*◌, ◌≤◌, List, None, Option, Some, length, replicate, slice_get, take, ℕ}
 use Rattle.bpf_verify.specs.Path.{program_at}
 use Rattle.bpf_verify.specs.Program.{ProgramValue}
@@ -28,25 +28,25 @@ pub record HasMember (config : List Group) (group index : ℕ) (member : Member 
   pub group_at : HasGroup config group of
   pub member_at : slice_get of.members index ≡ Some member
 
--- where the member records of the group at an index begin, and its programs
+-- the place of the first member record of the group at an index, and the place of its programs
 abbrev pub members_at : List Group → ℕ → ℕ
 members_at config group = members_begin config + MEMBER_WORDS * members_of (take group config)
 
 abbrev pub programs_at : List Group → ℕ → ℕ
 programs_at config group = programs_begin config + length (program_words (take group config))
 
--- the index of the group that a configuration has at a key, and its number of members; none where it has no such group
+-- the index of the group that a configuration has at a key, and its number of members; none if it has no such group
 abbrev pub IsGroupFound : Endpoint → List Group → Option FoundGroup → Type 0
 IsGroupFound key config None = group_of key config ≡ None
 IsGroupFound key config (Some found) =
     (group : Group) × (group_of key config ≡ Some group) × HasGroup config found.index group × (found.members ≡ length group.members)
 
--- the member's number, and where its packets are sent
+-- the member's number, and the destination of its packets
 pub record IsMemberFound (member : Member ProgramValue) (found : MemberEntry) : Type 0 where
   pub id : found.id ≡ member.id
   pub to : found.to ≡ member.to
 
--- where a program's words stand in the words; none where there is no program
+-- the place of a program's words in the words; none if there is no program
 pub record StandsAt (words program : List ℕ) (place : ProgramPlace) : Type 0 where
   pub inside : place.from + place.len ≤ length words
   pub stands : program_at words place.from place.len ≡ program
@@ -56,14 +56,14 @@ IsProgramFound words None found = found ≡ None
 IsProgramFound words (Some program) None = ⊥
 IsProgramFound words (Some program) (Some place) = StandsAt words program.words place
 
--- the row of a configuration is its image and then zeros, and begins with its image; the first word tells how long that is
+-- the row of a configuration is its image and then zeros, and begins with its image; the first word has the image's length
 pub record RowHolds (config : List Group) : Type 0 where
   pub padded : row config ≡ image config ++ replicate (ROW_WORDS - length (image config)) 0
   pub whole : length (row config) ≡ ROW_WORDS
   pub begins : BeginsWithImage (row config) config
   pub length_word : slice_get (row config) 0 ≡ Some (length (image config))
 
--- so it is where the charge is not more than a row has words
+-- this is true if the charge is not more than a row has words
 abbrev pub RowHoldsImage : Type 0
 RowHoldsImage = (config : List Group) → IsConfig config → charge_of config ≤ ROW_WORDS → RowHolds config
 

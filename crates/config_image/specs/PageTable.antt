@@ -1,7 +1,7 @@
 -- The two packed words of a row (docs/SWITCH.md, "The pooled form"): its header, and its page table entries.
 use Rattle.std.specs.Prelude.{◌*◌, ◌+◌, ◌/◌, ◌%◌, ◌^◌, ℕ}
 
--- the header of a row: the image's length, where its programs begin, and in the low 16 bits the number of page table entries
+-- the header of a row: the image's length, the start of its programs, and in the low 16 bits the number of page table entries
 abbrev pub header_word : ℕ → ℕ → ℕ → ℕ
 header_word len begin count = len * 2 ^ 32 + begin * 65536 + count
 

@@ -1,5 +1,5 @@
--- The words in which the table stores a configuration when programs stand in pages of a pool (docs/SWITCH.md, "The pooled form").
--- A row has a first word of its own, then what the image has before its programs, and in place of the programs a page table:
+-- The words in which the table stores a configuration if programs are in pages of a pool (docs/SWITCH.md, "The pooled form").
+-- A row has its own first word, then what the image has before its programs, and in place of the programs a page table:
 -- an entry for each part of the programs' words, with its page.
 use Rattle.std.specs.Prelude.{◌≡◌, ◌*◌, ◌+◌, ◌-◌, ◌/◌, ◌<◌, ◌≤◌, ◌++◌, ◌∷◌, List, Some, [], drop, flat_map, length, map, replicate, slice_get, slice_index, suc, take, zero, ℕ}
 use Rattle.std.specs.List.{All, sum_by}
@@ -11,7 +11,7 @@ use Rattle.config_image.specs.declared.TheConstants.{PAGE_LIMIT, PAGE_WORDS, ROW
 use Rattle.config_image.specs.Image.{Group, image, programs_begin, row}
 use Rattle.config_image.specs.PageTable.{entry_word, header_begin, header_count, header_len, header_word, page_of}
 
--- so many parts of words: each has as many words as a page, as long as there are words; words behind the last part are left out
+-- so many parts of words: each has as many words as a page, as long as there are words; words after the last part are left out
 abbrev pub parts_from : ℕ → List ℕ → List (List ℕ)
 parts_from zero words = []
 parts_from (suc n) words = take PAGE_WORDS words ∷ parts_from n (drop PAGE_WORDS words)
@@ -34,11 +34,11 @@ page_entries place [] pages = []
 page_entries place (part ∷ rest) [] = []
 page_entries place (part ∷ rest) (page ∷ pages) = entry_word place page ∷ page_entries (place + length part) rest pages
 
--- the first word of a row: the image's length, where its programs begin, and how many parts there are
+-- the first word of a row: the image's length, the start of its programs, and how many parts there are
 abbrev pub form_word : List Group → ℕ
 form_word config = header_word (length (image config)) (programs_begin config) (length (parts config))
 
--- the row of a configuration whose parts stand in these pages: the first word, the image's words before the programs, the entries,
+-- the row of a configuration whose parts are in these pages: the first word, the image's words before the programs, the entries,
 -- and then zeros
 unfoldable pub pooled_row : List Group → List ℕ → List ℕ
 pooled_row config pages =
@@ -50,13 +50,13 @@ abbrev pub pages_of : List ℕ → List ℕ
 pages_of words =
     map page_of (take (header_count (slice_index words 0)) (drop (header_begin (slice_index words 0)) words))
 
--- the place in the image of the first word of the part at an index; behind the last part that is the image's length
+-- the place in the image of the first word of the part at an index; after the last part that is the image's length
 abbrev pub part_begin : List Group → ℕ → ℕ
 part_begin config index = programs_begin config + sum_by (λ (part : List ℕ). length part) (take index (parts config))
 
--- ---- the parts of a program, and where they stand in the image
+-- ---- the parts of a program, and their places in the image
 
--- the words of parts, one part behind the other
+-- the words of parts, one part after the other
 abbrev pub joined : List (List ℕ) → List ℕ
 joined cut = flat_map (λ (part : List ℕ). part) cut
 
@@ -67,7 +67,7 @@ pub record IsCut (words : List ℕ) (cut : List (List ℕ)) : Type 0 where
   pub sized : (index : ℕ) (part : List ℕ) → slice_get cut index ≡ Some part → (1 ≤ length part) × (length part ≤ PAGE_WORDS)
   pub full : (index : ℕ) (part : List ℕ) → slice_get cut index ≡ Some part → index + 1 < length cut → length part ≡ PAGE_WORDS
 
--- where the parts stand in the image: one behind the other from the programs' beginning to the end, each of 1 to 16 words. There
+-- the places of the parts in the image: one after the other from the programs' beginning to the end, each of 1 to 16 words. There
 -- are as many as all programs take pages, and a quarter of the image's words at most. Each place of the image from the programs'
 -- beginning on is in one of them, and the image's word there is the part's.
 pub record PartsStand (config : List Group) : Type 0 where
@@ -84,21 +84,21 @@ pub record PartsStand (config : List Group) : Type 0 where
       → (part : List ℕ) × (slice_get (parts config) index ≡ Some part) × (i - part_begin config index < length part)
       × (slice_get (image config) i ≡ slice_get part (i - part_begin config index))
 
--- so it is with the words of each program, and in the image of each configuration
+-- this is true of the words of each program, and in the image of each configuration
 abbrev pub EachProgramIsCut : Type 0
 EachProgramIsCut = (words : List ℕ) → IsCut words (parts_of words)
 
 abbrev pub EachImageHasItsParts : Type 0
 EachImageHasItsParts = (config : List Group) → PartsStand config
 
--- ---- what a row tells
+-- ---- what a row says
 
 -- the pages of a configuration: one for each part, and each is a number of 16 bits
 pub record ArePages (config : List Group) (pages : List ℕ) : Type 0 where
   pub counted : length pages ≡ length (parts config)
   pub below : All (λ page. page < 65536) pages
 
--- what the words of a row tell of the configuration and of the pages
+-- the words of a row, by the configuration and the pages
 pub record PooledRowTells (config : List Group) (pages : List ℕ) : Type 0 where
   pub whole : length (pooled_row config pages) ≡ ROW_WORDS
   pub form : slice_get (pooled_row config pages) 0 ≡ Some (form_word config)
@@ -115,26 +115,26 @@ pub record PooledRowTells (config : List Group) (pages : List ℕ) : Type 0 wher
   pub pages_are : pages_of (pooled_row config pages) ≡ pages
   pub parts_stand : PartsStand config
 
--- so it is where a row has room for the image
+-- this is true if a row has room for the image
 abbrev pub RowTellsItsPartsWithRoom : Type 0
 RowTellsItsPartsWithRoom =
     (config : List Group) (pages : List ℕ) → length (image config) ≤ ROW_WORDS → ArePages config pages → PooledRowTells config pages
 
--- and so where the charge is not more than a row has words
+-- and so if the charge is not more than a row has words
 abbrev pub RowTellsItsParts : Type 0
 RowTellsItsParts = (config : List Group) (pages : List ℕ) → IsConfig config → charge_of config ≤ ROW_WORDS → ArePages config pages → PooledRowTells config pages
 
--- ---- a row and pages that hold its parts
+-- ---- a row and the pages of its parts
 
--- a row in the pooled form and the pages where the parts stand, each from the page's first word on; `word q k` is word k of page q,
--- and what stands behind a part is open
+-- a row in the pooled form and the pages of its parts, each part from the page's first word on; `word q k` is word k of page q, and
+-- the words after a part are not specified
 pub record IsPooledForm (config : List Group) (stored pages : List ℕ) (word : ℕ → ℕ → ℕ) : Type 0 where
   pub are : ArePages config pages
   pub row_is : stored ≡ pooled_row config pages
   pub stands : (index page k x : ℕ) (part : List ℕ) → slice_get pages index ≡ Some page → slice_get (parts config) index ≡ Some part → slice_get part k ≡ Some x → word page k ≡ x
 
--- what they tell of the row that holds the image: its first word, the words before the programs, the programs' words and the zeros.
--- A place of the programs is in one part, and the part is in a page.
+-- the row that has the image, by a row in the pooled form and its pages: its first word, the words before the programs, the programs'
+-- words and the zeros. A place of the programs is in one part, and the part is in a page.
 pub record PooledFormTells (config : List Group) (stored pages : List ℕ) (word : ℕ → ℕ → ℕ) : Type 0 where
   pub length_word : slice_index (row config) 0 ≡ length (image config)
   pub before : (i : ℕ) → 0 < i → i < programs_begin config → slice_index (row config) i ≡ slice_index stored i

@@ -1,4 +1,4 @@
--- Which part of an image holds a place, by the page table entries of a row, and what a contract sees of a Search for it.
+-- The part of an image that contains a place, by the page table entries of a row, and a Search for it as contracts see it.
 use Rattle.std.specs.Prelude.{◌≡◌, ◌+◌, ◌-◌, ◌/◌, ◌<◌, ◌≤◌, List, Some, length, slice_get, suc, zero, ℕ}
 use Rattle.std.specs.List.{AllPairs}
 use Rattle.config_image.specs.declared.pages.search.FoundPart.{FoundPart}
@@ -10,7 +10,7 @@ use Rattle.config_image.specs.PageTable.{entry_word, start_of}
 abbrev pub IsWithin : List ℕ → ℕ → ℕ → Type 0
 IsWithin entries end place = (first : ℕ) × (slice_get entries 0 ≡ Some first) × (start_of first ≤ place) × (place < end)
 
--- a part holds a place: it starts there or before, and what is behind it starts later: the next part, or the end
+-- a part contains a place: it starts there or before, and what follows it starts later: the next part, or the end
 pub record HoldsPlace (entries : List ℕ) (end place : ℕ) (part : FoundPart) : Type 0 where
   pub named : slice_get entries part.index ≡ Some part.entry.0
   pub from : start_of part.entry.0 ≤ place
@@ -22,7 +22,7 @@ pub record HoldsPlace (entries : List ℕ) (end place : ℕ) (part : FoundPart) 
 abbrev pub StartsRise : List ℕ → Type 0
 StartsRise entries = AllPairs (λ entry later. start_of entry < start_of later) entries
 
--- where the starts rise, one part at most holds a place
+-- if the starts rise, at most one part contains a place
 abbrev pub OnePartHolds : Type 0
 OnePartHolds =
     (entries : List ℕ) (end place : ℕ) (part other : FoundPart) → StartsRise entries → HoldsPlace entries end place part → HoldsPlace entries end place other
@@ -39,7 +39,7 @@ unread search = search.high - search.low
 abbrev pub asked : Search → ℕ
 asked search = search.low + (search.high - search.low) / 2
 
--- how many binary digits hold a number, if so many suffice
+-- how many binary digits a number has, if so many suffice
 unfoldable pub digits : ℕ → ℕ → ℕ
 digits zero number = 0
 digits (suc most) zero = 0
@@ -49,8 +49,8 @@ digits (suc most) (suc number) = suc (digits most (suc number / 2))
 unfoldable pub reads_left : Search → ℕ
 reads_left search = digits READ_LIMIT (unread search)
 
--- the search was given entries of this list, and looks for the part that holds the place: the entry before `low` starts at the place
--- or before it; the entry at `high`, or after the last one the end, starts later
+-- the search is over the entries of this list, and looks for the part that contains the place: the entry before `low` starts at the
+-- place or before it; the entry at `high`, or after the last one the end, starts later
 pub record IsSearchOf (entries : List ℕ) (end place : ℕ) (search : Search) : Type 0 where
   pub within : IsWithin entries end place
   pub greatest : search.greatest ≡ entry_word place 0xffff

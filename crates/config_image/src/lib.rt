@@ -1,5 +1,5 @@
-//! The image of a configuration: the words in which the table keeps it, and what is found in them again
-//! (docs/SWITCH.md, "Image"). No call takes memory but `ExtentCache::new`.
+//! The image of a configuration: the words that the table stores for it, and the lookups in these words (docs/SWITCH.md, "Image").
+//! No call takes memory but `ExtentCache::new`.
 #![tactic(auto)]
 
 ghost use Rattle.std.specs.Prelude.{◌≡◌};
@@ -41,7 +41,7 @@ pub const PAGE_WORDS: usize = 16;
 /// The greatest number of pages that a version names: a page costs at least four words of the charge.
 pub const PAGE_LIMIT: usize = (ROW_WORDS - HEAD_WORDS) / 4;
 
-/// The number of page table entries that a search asks for at most.
+/// The greatest number of page table entries that a search asks for.
 pub const READ_LIMIT: usize = 11;
 
 /// Law: the limits, as numbers. It runs nothing.
@@ -64,31 +64,31 @@ pub fn row_holds_image()
     ensures { RowHoldsImage }
 {}
 
-/// Law: how programs are cut in parts, and where the parts stand in the image of each configuration. It runs nothing.
+/// Law: how programs are cut into parts, and which places the parts have in the image of each configuration. It runs nothing.
 pub fn parts_stand()
     ensures cut { EachProgramIsCut }
     ensures in_image { EachImageHasItsParts }
 {}
 
-/// Law: what the row of a configuration in the pooled form tells of its programs and of the pages where they stand, where a row has
-/// room for the image, and so where the configuration is charged for at most `ROW_WORDS` words. It runs nothing.
+/// Law: what a row in the pooled form says of the configuration's programs and of the pages of their parts, if a row has room for
+/// the image. A row has room if the configuration is charged for at most `ROW_WORDS` words. The law runs nothing.
 pub fn row_tells_its_parts()
     ensures room { RowTellsItsPartsWithRoom }
     ensures charged { RowTellsItsParts }
 {}
 
-/// Law: the row that holds the image, word by word, as a row in the pooled form and the pages that hold its parts tell it. It runs
+/// Law: a row in the pooled form and the pages that have its parts determine, word by word, the row that has the image. It runs
 /// nothing.
 pub fn pooled_form_tells_row()
     ensures { PooledFormTellsRow }
 {}
 
-/// Law: if the starts rise, at most one part holds a place. It runs nothing.
+/// Law: if the starts rise, at most one part contains a place. It runs nothing.
 pub fn one_part_holds()
     ensures { OnePartHolds }
 {}
 
-/// Law: places that are less than 1023 apart have slots of their own. It runs nothing.
+/// Law: places that are less than 1023 apart have different slots. It runs nothing.
 pub fn slots_apart()
     ensures { SlotsApart }
 {}

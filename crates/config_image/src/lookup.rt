@@ -1,4 +1,4 @@
-//! What is found again in words that begin with an image, read one at a time.
+//! Lookups in words that begin with an image, read one at a time.
 
 ghost use Rattle.std.specs.Prelude.{◌≡◌, ◌+◌, ◌*◌, ◌<◌, IfSome, IsNone, List, None};
 ghost use Rattle.member_group.specs.declared.member.Member.{Member};
@@ -15,7 +15,7 @@ use member_group::{GROUP_LIMIT, GROUP_WORDS, HEAD_WORDS, MEMBER_WORDS};
 pub struct FoundGroup {
     /// Its index, counted from 0.
     pub index: usize,
-    /// How many members it has.
+    /// The number of its members.
     pub members: usize,
 }
 
@@ -24,20 +24,20 @@ pub struct FoundGroup {
 pub struct MemberEntry {
     /// Its number.
     pub id: u32,
-    /// Where its packets are sent.
+    /// The destination of its packets.
     pub to: Endpoint,
 }
 
-/// Where the words of a program stand.
+/// The place of a program's words.
 #[derive(Clone, Copy, Debug, PartialEq, Eq)]
 pub struct ProgramPlace {
     /// The place of the first word, counted from 0.
     pub from: usize,
-    /// How many words it has, at least 1.
+    /// The number of words, at least 1.
     pub len: usize,
 }
 
-// What a reference names.
+// The place that a reference names.
 fn place(reference: u64) -> Option<ProgramPlace>
     ensures none { reference ≡ 0 → result ≡ None }
     ensures some { IfSome result (λ place. (reference ≡ place.from * 65536 + place.len) × (place.len < 65536)) }
@@ -53,7 +53,7 @@ fn place(reference: u64) -> Option<ProgramPlace>
     }
 }
 
-// Where the record of a group begins.
+// The place of a group's record.
 fn record(group: usize) -> usize
     requires { group < GROUP_LIMIT }
     ensures { result ≡ HEAD_WORDS + GROUP_WORDS * group }
@@ -61,7 +61,7 @@ fn record(group: usize) -> usize
     HEAD_WORDS + GROUP_WORDS * group
 }
 
-// Where the member records of a group begin.
+// The place of a group's first member record.
 fn members_place<W: Words>(words: &mut W, group: usize) -> usize
     requires { (config : List Group) × (at : Group) × BeginsWithImage (W.words words.old) config × HasGroup config group at }
     ensures place { (config : List Group) (at : Group) → BeginsWithImage (W.words words.old) config → HasGroup config group at → result ≡ members_at config group }
@@ -71,7 +71,7 @@ fn members_place<W: Words>(words: &mut W, group: usize) -> usize
     words.word(record(group) + 1) as usize
 }
 
-/// Finds the group of a key in words that begin with an image, by halving over the sorted keys: of 64 it reads at most
+/// Finds the group of a key in words that begin with an image, by binary search over the sorted keys: of 64 keys it reads at most
 /// seven. Takes no memory.
 pub fn find_group<W: Words>(words: &mut W, key: Endpoint) -> Option<FoundGroup>
     requires { (config : List Group) × BeginsWithImage (W.words words.old) config }
@@ -101,7 +101,7 @@ pub fn find_group<W: Words>(words: &mut W, key: Endpoint) -> Option<FoundGroup>
     None
 }
 
-// Where the record of a member begins.
+// The place of a member's record.
 fn member_place<W: Words>(words: &mut W, group: usize, index: usize) -> usize
     requires { (config : List Group) × (member : Member ProgramValue) × BeginsWithImage (W.words words.old) config × HasMember config group index member }
     ensures place { (config : List Group) (member : Member ProgramValue) → BeginsWithImage (W.words words.old) config → HasMember config group index member → result ≡ members_at config group + MEMBER_WORDS * index }
@@ -111,7 +111,7 @@ fn member_place<W: Words>(words: &mut W, group: usize, index: usize) -> usize
     members_place(words, group) + MEMBER_WORDS * index
 }
 
-// What the record of a member says of it, and where its filter stands.
+// Reads the member from its record.
 fn read_member<W: Words>(words: &mut W, entry: usize) -> MemberEntry
     requires { (member : Member ProgramValue) × IsRecordOf (W.words words.old) entry member }
     ensures member_found { (member : Member ProgramValue) → IsRecordOf (W.words words.old) entry member → IsMemberFound member result }
@@ -132,10 +132,10 @@ fn read_filter<W: Words>(words: &mut W, entry: usize) -> Option<ProgramPlace>
     place(words.word(entry + 2))
 }
 
-/// Tells which member a group has at an index, in words that begin with an image.
+/// Returns the member at an index of a group, in words that begin with an image.
 ///
-/// `group` and `index` are counted from 0. Reads three words. Takes no memory. For who wants the member alone; judging a packet
-/// wants its filter too, and uses `member_with_filter`. Whether it is locked is not read: no verdict asks for it.
+/// `group` and `index` are counted from 0. Reads three words. Takes no memory. To judge a packet, which needs the filter too, use
+/// `member_with_filter`. The member's lock is not read: no verdict depends on it.
 pub fn member_at<W: Words>(words: &mut W, group: usize, index: usize) -> MemberEntry
     requires { (config : List Group) × (member : Member ProgramValue) × BeginsWithImage (W.words words.old) config × HasMember config group index member }
     ensures member_found { (config : List Group) (member : Member ProgramValue) → BeginsWithImage (W.words words.old) config → HasMember config group index member → IsMemberFound member result }
@@ -146,7 +146,7 @@ pub fn member_at<W: Words>(words: &mut W, group: usize, index: usize) -> MemberE
     read_member(words, entry)
 }
 
-/// Tells where the words of a group's selector stand, in words that begin with an image.
+/// Returns the place of the words of a group's selector, in words that begin with an image.
 ///
 /// `group` is counted from 0. Reads one word. Takes no memory.
 pub fn selector_of<W: Words>(words: &mut W, group: usize) -> Option<ProgramPlace>
@@ -158,10 +158,10 @@ pub fn selector_of<W: Words>(words: &mut W, group: usize) -> Option<ProgramPlace
     place(words.word(record(group) + 3))
 }
 
-/// Tells where the words of a member's filter stand, in words that begin with an image.
+/// Returns the place of the words of a member's filter, in words that begin with an image.
 ///
-/// `group` and `index` are counted from 0. Reads two words. Takes no memory. For who wants the filter alone; judging a packet
-/// wants the member too, and uses `member_with_filter`.
+/// `group` and `index` are counted from 0. Reads two words. Takes no memory. To judge a packet, which needs the member too, use
+/// `member_with_filter`.
 pub fn filter_of<W: Words>(words: &mut W, group: usize, index: usize) -> Option<ProgramPlace>
     requires { (config : List Group) × (member : Member ProgramValue) × BeginsWithImage (W.words words.old) config × HasMember config group index member }
     ensures filter_found { (config : List Group) (member : Member ProgramValue) → BeginsWithImage (W.words words.old) config → HasMember config group index member → IsProgramFound (W.words words.old) member.filter result }
@@ -172,7 +172,7 @@ pub fn filter_of<W: Words>(words: &mut W, group: usize, index: usize) -> Option<
     read_filter(words, entry)
 }
 
-/// Tells which member a group has at an index, and where the words of its filter stand: both as `member_at` and `filter_of` do.
+/// Returns the member at an index of a group, and the place of its filter's words: both as `member_at` and `filter_of` do.
 ///
 /// Reads four words, each once. Takes no memory.
 pub fn member_with_filter<W: Words>(

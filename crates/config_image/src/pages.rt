@@ -1,4 +1,4 @@
-//! The pages of the pool: how many a configuration takes, and the page table of a row, the search in it and the cache of what was
+//! The pages of the pool: how many a configuration takes; the page table of a row, with the search in it and the cache of what was
 //! found.
 
 ghost use Rattle.std.specs.Prelude.{◌≡◌, ◌+◌, ◌*◌, ◌<◌, ◌≤◌, ◌^◌, length};
@@ -23,7 +23,7 @@ pub use cache::{Extent, ExtentCache};
 pub use search::{FoundPart, Search};
 pub use table::{PageEntry, RowHeader};
 
-/// The number of pages that a program of so many words takes: one for each `PAGE_WORDS` words, and one for the rest.
+/// Returns the number of pages that a program of `len` words takes: one for each `PAGE_WORDS` words, and one for the rest.
 #[inline(always)]
 pub fn pages_for(len: usize) -> usize
     requires { len + PAGE_WORDS < 2 ^ 64 }
@@ -72,9 +72,9 @@ fn pages_in<A: Allocator>(groups: &[Group<A>]) -> u32
     pages
 }
 
-/// The number of pages that the programs of a configuration take, by `pages_for`.
+/// Returns the number of pages that the programs of a configuration take, by `pages_for`.
 ///
-/// It takes time for each group and each member, and none for the words of a program.
+/// Takes time for each group and each member, and none for the words of a program.
 #[tactic(auto, using(crate::proofs::PooledLemmas::few_pages))]
 pub fn page_count<A: Allocator>(config: &Config<A>) -> u32
     ensures exact { result ≡ length (parts config.now) }

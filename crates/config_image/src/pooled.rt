@@ -28,7 +28,7 @@ fn form_word<A: Allocator>(groups: &[Group<A>], programs_at: usize, count: usize
     RowHeader::new(words_in(groups), programs_at, count).0
 }
 
-// The place of the first word of part `part`, where the programs begin at `programs_at`.
+// The place of the first word of part `part`, if the programs begin at `programs_at`.
 fn part_place<A: Allocator>(programs: Programs<'_, A>, part: usize, programs_at: usize) -> usize
     requires inside { part < length (flat_map parts_of programs) }
     requires limited { programs_at + sum_by (λ (words : List ℕ). length words) programs ≤ PLACE_LIMIT }
@@ -71,9 +71,9 @@ fn stored<A: Allocator>(groups: &[Group<A>], pages: &[u32], i: usize) -> u64
     }
 }
 
-/// Tells word `i` of the row of a configuration whose parts stand in these pages, counted from 0.
+/// Returns word `i`, counted from 0, of the row of a configuration whose parts are in these pages.
 ///
-/// It takes time for each group and each member, and none for the words of a program.
+/// Takes time for each group and each member, and none for the words of a program.
 pub fn stored_word<A: Allocator>(config: &Config<A>, pages: &[u32], i: usize) -> u64
     requires pages { ArePages config.now pages.now }
     requires inside { i < ROW_WORDS }

@@ -13,7 +13,7 @@ use member_group::{
 };
 use std::alloc::Allocator;
 
-// The words of a program, none where there is no program.
+// The words of a program, none if there is no program.
 pub(crate) fn words<A: Allocator>(program: Option<&Program<A>>) -> &[u64]
     ensures words { result.now ≡ words_of (option_map (λ lent. lent.now) program.entry) }
     ensures limited { length result.now ≤ MAX_INSTRUCTIONS }
@@ -58,7 +58,7 @@ pub(crate) fn words_in<A: Allocator>(groups: &[Group<A>]) -> usize
     len
 }
 
-/// Tells how many words the image of a configuration has: at most its charge.
+/// Returns the number of words of a configuration's image, which is at most the configuration's charge.
 #[tactic(auto, using(crate::proofs::LengthLemmas::within_charge))]
 pub fn image_len<A: Allocator>(config: &Config<A>) -> usize
     ensures length_exact { result ≡ length (image config.now) }

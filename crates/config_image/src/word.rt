@@ -35,7 +35,7 @@ pub(crate) fn lock_word(locked: bool) -> u64
     if locked { 1 } else { 0 }
 }
 
-// Word `word` of the groups' records, where member records begin at `members_at` and programs at `programs_at`.
+// Word `word` of the groups' records, if member records begin at `members_at` and programs at `programs_at`.
 fn group_word<A: Allocator>(
     groups: &[Group<A>],
     word: usize,
@@ -68,7 +68,7 @@ fn group_word<A: Allocator>(
     unreachable!()
 }
 
-// Word `word` of a group's member records, where the filters begin at `filters_at`.
+// Word `word` of a group's member records, if the filters begin at `filters_at`.
 fn member_word<A: Allocator>(members: &[Member<Program<A>>], word: usize, filters_at: usize) -> u64
     requires few { length members.now ≤ MEMBER_LIMIT }
     requires inside { word < MEMBER_WORDS * length members.now }
@@ -92,7 +92,7 @@ fn member_word<A: Allocator>(members: &[Member<Program<A>>], word: usize, filter
     unreachable!()
 }
 
-// Word `word` of all member records, where the programs begin at `programs_at`.
+// Word `word` of all member records, if the programs begin at `programs_at`.
 fn members_word<A: Allocator>(groups: &[Group<A>], word: usize, programs_at: usize) -> u64
     requires few { length groups.now ≤ GROUP_LIMIT }
     requires groups { All IsGroup groups.now }
@@ -159,7 +159,7 @@ fn program_word<A: Allocator>(groups: &[Group<A>], word: usize) -> u64
     unreachable!()
 }
 
-// Word `i` of an image, behind the first and before the programs, where member records begin at `members_at` and programs at
+// Word `i` of an image, after the first and before the programs, if member records begin at `members_at` and programs at
 // `programs_at`.
 pub(crate) fn record_word<A: Allocator>(
     groups: &[Group<A>],
@@ -199,9 +199,9 @@ fn word<A: Allocator>(groups: &[Group<A>], i: usize) -> u64
     }
 }
 
-/// Tells word `i` of the image of a configuration, counted from 0.
+/// Returns word `i` of the image of a configuration, counted from 0.
 ///
-/// It takes time for each group and each member, and none for the words of a program.
+/// Takes time for each group and each member, and none for the words of a program.
 pub fn image_word<A: Allocator>(config: &Config<A>, i: usize) -> u64
     requires { i < length (image config.now) }
     ensures word_exact { slice_get (image config.now) i ≡ Some result }

@@ -11,7 +11,7 @@ use bpf_verify::{MAX_INSTRUCTIONS, Program};
 use member_group::{GROUP_LIMIT, Group, MEMBER_LIMIT, MEMBER_WORDS, Member};
 use std::alloc::Allocator;
 
-/// Where words are put, one behind the other.
+/// A sink that takes words one after the other.
 pub trait WordSink {
     ghost taken: { Self → List ℕ };
 
@@ -34,7 +34,7 @@ pub(crate) fn write_words<S: WordSink>(words: &[u64], sink: &mut S)
     }
 }
 
-// The groups' records, where member records begin at `members_at` and programs at `programs_at`.
+// Writes the groups' records, if member records begin at `members_at` and programs at `programs_at`.
 pub(crate) fn write_group_records<A: Allocator, S: WordSink>(
     groups: &[Group<A>],
     members_at: usize,
@@ -61,7 +61,7 @@ pub(crate) fn write_group_records<A: Allocator, S: WordSink>(
     }
 }
 
-// A group's member records, where the filters begin at `filters_at`. Tells where they end.
+// Writes a group's member records, if the filters begin at `filters_at`. Returns the end of the filters.
 fn write_member_records<A: Allocator, S: WordSink>(
     members: &[Member<Program<A>>],
     filters_at: usize,
@@ -86,7 +86,7 @@ fn write_member_records<A: Allocator, S: WordSink>(
     place
 }
 
-// All member records, where the programs begin at `programs_at`.
+// Writes all member records, if the programs begin at `programs_at`.
 pub(crate) fn write_members<A: Allocator, S: WordSink>(
     groups: &[Group<A>],
     programs_at: usize,

@@ -13,7 +13,7 @@ IsPacketLine line digits = line ≡ codes "packet " ++ digits
 abbrev pub HasNoPacket : List ℕ → Type 0
 HasNoPacket line = (digits : List ℕ) → IsPacketLine line digits → IsHex digits → LINE_LIMIT < length line
 
--- what was read of the line is what its digits say
+-- the line was read as its digits say
 abbrev pub IsPacketRead : List ℕ → PacketLine → Type 0
 IsPacketRead line (Packet packet) = (digits : List ℕ) × (length line ≤ LINE_LIMIT) × IsPacketLine line digits × SpellsPacket digits packet.items
 IsPacketRead line TooLong = (digits : List ℕ) × (length line ≤ LINE_LIMIT) × IsPacketLine line digits × SpellsTooMuch digits

@@ -1,4 +1,4 @@
--- What a replay leaves: what it read, what it wrote, and which device failed (docs/COMMANDS.md, "replay").
+-- The effect of a replay: what it read, what it wrote, and which device failed (docs/COMMANDS.md, "replay").
 use Rattle.std.specs.Prelude.{◌≡◌, ◌++◌, ◌⊎◌, Err, List, None, Ok, Option, Result, Some, [], suc, ℕ}
 use Rattle.std.specs.Io.KnownBytes.{Appends, Consumes, IsAtEnd}
 use Rattle.dispatch.specs.Memory.{MOST_FAILURES}
@@ -7,13 +7,13 @@ use Rattle.control.specs.declared.fault.ReplayFault.TheVariants.{OutOfMemory, Re
 use Rattle.control.specs.Script.{AreAnswered, BeginsRequest, IsScriptText, Standing}
 use Rattle.control.specs.Streams.{InputValue, OutputValue}
 
--- what was read up to a failed read, which made the failures so many; what is left is told but where no more can be counted
+-- the bytes up to a failed read, which made the failures so many; the rest is known unless no more failures can be counted
 abbrev pub WasRead : ℕ → Option (List ℕ) → Option (List ℕ) → List ℕ → Type 0
 WasRead failures None after bytes = Unit {0}
 WasRead failures (Some coming) None bytes = failures ≡ MOST_FAILURES
 WasRead failures (Some coming) (Some later) bytes = coming ≡ bytes ++ later
 
--- what was written up to a failed write, which made the failures so many; it is told but where no more can be counted
+-- the bytes written up to a failed write, which made the failures so many; they are known unless no more failures can be counted
 abbrev pub WasWritten : ℕ → Option (List ℕ) → Option (List ℕ) → List ℕ → Type 0
 WasWritten failures None after bytes = Unit {0}
 WasWritten failures (Some taken) None bytes = failures ≡ MOST_FAILURES
@@ -44,7 +44,7 @@ abbrev pub IsTextOfLines : InputValue → List ℕ → List ℕ → List ℕ →
 IsTextOfLines input' lines rest text =
     ((last : Standing) × AreAnswered lines text last) ⊎ ((rest ≡ []) × IsAtEnd input'.coming × IsScriptText lines text)
 
--- of the replies to requests that were read a beginning was written, and nothing else
+-- a beginning of the replies to requests that were read was written, and nothing else
 pub record WroteBeginning (input input' : InputValue) (output output' : OutputValue) : Type 0 where
   pub lines : List ℕ
   pub rest : List ℕ
@@ -66,7 +66,7 @@ pub record AnsweredFirstLines (input input' : InputValue) (output output' : Outp
   pub answered : AreAnswered lines text last
   pub written : Appends output.taken output'.taken text
 
--- each device failed once where the fault is its own, and else not
+-- each device failed once if the fault is its own, and else not
 abbrev pub FailedBy : Result (Unit {0}) ReplayFault → InputValue → InputValue → OutputValue → OutputValue → Type 0
 FailedBy (Ok done) input input' output output' = (input'.failures ≡ input.failures) × (output'.failures ≡ output.failures)
 FailedBy (Err ReadFailed) input input' output output' = (input'.failures ≡ suc input.failures) × (output'.failures ≡ output.failures)

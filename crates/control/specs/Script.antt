@@ -1,5 +1,5 @@
--- What the requests of a script are, and their replies (docs/COMMANDS.md, "replay"). It speaks of the texts and what they mean. Only
--- replies that read a program back contain compiled words.
+-- The requests of a script, and their replies (docs/COMMANDS.md, "replay"), by the texts and what they mean. Only replies that read a
+-- program back contain compiled words.
 use Rattle.std.specs.Prelude.{◌==◌, ◌≡◌, ◌+◌, ◌≤◌, ◌++◌, ◌∷◌, if◌then◌else◌, List, [], length, ℕ}
 use Rattle.std.specs.List.{All}
 use Rattle.dispatch.specs.Verdict.{returned, verdict}
@@ -24,7 +24,7 @@ use Rattle.control_line.specs.Reply.{judged_text, reply_text}
 
 -- ---- requests
 
--- what has one reply: a line that does not begin a block, or a whole block
+-- a text that has one reply: a line that does not begin a block, or a whole block
 pub data IsRequest (text : List ℕ) : Type 0 where
   is_line : Lacks 10 text → ((head : Head) (rest : List ℕ) → ¬ HasHead text head rest) → IsRequest text
   is_block : (head : Head) (lines : List (List ℕ)) → IsBlock text head lines → IsRequest text
@@ -43,7 +43,7 @@ with_last_lf (byte ∷ next ∷ rest) = byte ∷ with_last_lf (next ∷ rest)
 
 -- ---- replies
 
--- where a script stands: the current version, its configuration as the texts mean it, and how many versions were reported as free
+-- the state of a script: the current version, its configuration as the texts mean it, and how many versions were reported as free
 pub record Standing : Type 0 where
   pub version : ℕ
   pub config : TextConfig
@@ -53,11 +53,11 @@ pub record Standing : Type 0 where
 abbrev pub at_start : Standing
 at_start = record { version = 0; config = []; reported = 0 }
 
--- what a program of a text answers a packet
+-- the result of a text's program for a packet
 abbrev pub text_value : LoadedProgram → List ℕ → ℕ
 text_value program packet = returned (text_ending program.text packet)
 
--- Each worker is outside whenever a request is answered. So a publication is never busy, and a sweep reports every version that was
+-- Each worker is outside whenever a request is replied to. So a publication is never busy, and a sweep reports every version that was
 -- replaced and not yet reported.
 abbrev pub ComesInScript : Standing → LineAnswer → Type 0
 ComesInScript now (Refused (Publishing Busy)) = ⊥
@@ -72,7 +72,7 @@ ComesInScript now (PacketJudged version judged) = Unit {0}
 ComesInScript now (PacketMalformed version why) = Unit {0}
 ComesInScript now (Swept reclaimed) = (reclaimed.first ≡ now.reported) × (reclaimed.first + reclaimed.count ≡ now.version)
 
--- where the script stands after an answer that leaves this configuration
+-- the state of the script after an answer that leaves this configuration
 abbrev pub standing_after : Standing → LineAnswer → TextConfig → Standing
 standing_after now (Refused why) next = record now { config = next }
 standing_after now (LineRefused number why) next = record now { config = next }
@@ -85,7 +85,7 @@ standing_after now (PacketJudged version judged) next = record now { config = ne
 standing_after now (PacketMalformed version why) next = record now { config = next }
 standing_after now (Swept reclaimed) next = record now { config = next; reported = reclaimed.first + reclaimed.count }
 
--- the reply to a request, and where the script stands then, with expressions compiled by this compiler
+-- the reply to a request, and the state of the script then, with expressions compiled by this compiler
 pub data RepliesToBy (by : Compiler) (now : Standing) (request : List ℕ) : List ℕ → Standing → Type 0 where
   to_control : (answer : LineAnswer) (next : TextConfig) → HasNoPacket request →
       AnswersBy by now.version now.config request answer next → ComesInScript now answer →
@@ -95,7 +95,7 @@ pub data RepliesToBy (by : Compiler) (now : Standing) (request : List ℕ) : Lis
   to_long_packet : (digits : List ℕ) → length request ≤ LINE_LIMIT → IsPacketLine request digits → SpellsTooMuch digits →
       RepliesToBy by now request (refusal_text PacketTooLong) now
 
--- requests that each end with LF, their replies, each with LF too, and where the script stands after them
+-- requests that each end with LF, their replies, each with LF too, and the state of the script after them
 pub data AreAnsweredBy (by : Compiler) : List ℕ → List ℕ → Standing → Type 0 where
   no_request : AreAnsweredBy by [] [] at_start
   one_more : (requests text request reply : List ℕ) (now next : Standing) → AreAnsweredBy by requests text now → IsRequest request →
@@ -124,6 +124,7 @@ abbrev pub ReadsNothing : List ℕ → Type 0
 ReadsNothing script = (front line back : List ℕ) (reading : Reading) → script ≡ front ++ (line ++ back) → ¬ Spells line (read reading)
 
 -- a script without lines that read has one text
+-- The reason: docs/INTERNALS.md, "A script has one text".
 abbrev pub HasOneText : Type 0
 HasOneText = (script one other : List ℕ) → ReadsNothing script → IsScriptText script one → IsScriptText script other → one ≡ other
 

@@ -1,11 +1,11 @@
--- What contracts see of an input and of an output: how often it failed, its bytes where it tells them, and how many bytes an
--- input can still give.
+-- An input and an output as contracts see them: how often it failed, its bytes if they are known, and how many bytes an input can
+-- still return.
 use Rattle.std.specs.Prelude.{◌==◌, ◌≡◌, ◌<◌, if◌then◌else◌, List, MatchResult, None, Option, Result, Some, length, take, ℕ}
 use Rattle.std.specs.Borrow.{GName}
 use Rattle.std.specs.Io.KnownBytes.{Appends, Consumes, IsAtEnd}
 use Rattle.dispatch.specs.Memory.{MOST_FAILURES}
 
--- an input; `coming` are the bytes that it has still to give, and it gives no more than `left` of them
+-- an input; `coming` are the bytes that it has still to return, and it returns no more than `left` of them
 pub record InputValue : Type 0 where
   pub failures : ℕ
   pub coming : Option (List ℕ)
@@ -16,14 +16,14 @@ pub record OutputValue : Type 0 where
   pub failures : ℕ
   pub taken : Option (List ℕ)
 
--- known bytes stay as they were after a call that failed; they are told no more only once the failures are as many as can be
+-- known bytes stay as they were after a call that failed; they are no longer known only once the failures are as many as can be
 -- counted
 abbrev pub KeepsOrForgets : ℕ → Option (List ℕ) → Option (List ℕ) → Type 0
 KeepsOrForgets failures None after = Unit {0}
 KeepsOrForgets failures (Some bytes) None = failures ≡ MOST_FAILURES
 KeepsOrForgets failures (Some bytes) (Some later) = later ≡ bytes
 
--- a read gives the next bytes, and none of them only at their end; a failed one gives none, and makes the failures so many
+-- a read returns the next bytes, and none of them only at their end; a failed one returns none, and makes the failures so many
 abbrev pub GivesNext : {E : Type 0} → ℕ → Option (List ℕ) → Option (List ℕ) → Result ℕ E → List ℕ → Type 0
 GivesNext failures before after result buffer =
     MatchResult result
@@ -37,7 +37,7 @@ TakesFront failures before after result bytes =
     (λ size. Appends before after (take size bytes))
     (λ failed. KeepsOrForgets failures before after)
 
--- what a device that failed so often tells of its bytes: nothing, once its failures are as many as can be counted
+-- the known bytes of a device that failed so often: none, once its failures are as many as can be counted
 abbrev pub told_after : ℕ → Option (List ℕ) → Option (List ℕ)
 told_after failures known = if failures == MOST_FAILURES then None else known
 

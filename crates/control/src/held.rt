@@ -14,7 +14,7 @@ const LINE_ROOM: usize = LINE_LIMIT + 1;
 // also if an LF at the end of the script is dropped.
 const BLOCK_ROOM: usize = BLOCK_LIMIT + 2;
 
-/// What was read of a request, but of one that is too long no more than shows that.
+/// The bytes of a request that were read. If the request is too long, only enough bytes are kept to show that.
 #[derive(Drop)]
 pub(crate) struct Held {
     pub(crate) bytes: Vec<u8>,
@@ -87,7 +87,7 @@ impl Held {
         Ok(false)
     }
 
-    // The same of a line outside of blocks, which may begin one.
+    // The same for a line outside of blocks, which may begin a block.
     fn end_first_line(&mut self) -> Result<bool, AllocError>
         requires { self.old.due ≡ 0 }
         ensures { IfOk result (λ whole. (part : List ℕ) → Holds part self.old → HoldsAfterLine whole part self.new) }

@@ -1,7 +1,7 @@
 //! Scripts of control lines and of packets, and their text (docs/COMMANDS.md, "replay"), over control lines (`line`).
 //!
-//! `replay` gives the lines of an `Input` to a switch of its own, and writes the replies to an `Output`; `FromRead` and `ToWrite` are
-//! these over the standard library's readers and writers.
+//! `replay` passes the lines of an `Input` to its own switch, and writes the replies to an `Output`. `FromRead` and `ToWrite`
+//! implement both over the standard library's readers and writers.
 #![tactic(auto)]
 
 ghost use Rattle.control.specs.Judged.{JudgesAsPacket, SaysWhyMalformed};
@@ -29,8 +29,8 @@ pub use replaying::replay;
 pub use std_streams::{FromRead, READ_LIMIT, ToWrite, limits_as_numbers};
 pub use streams::{Input, Output};
 
-/// Law: a script without lines that read has one text. With a compiler that makes the same words of an expression each time, so has
-/// every script. It runs nothing.
+/// Law: a script without lines that read has one text. With a compiler that makes the same words of an expression each time, every
+/// script has one text. It runs nothing.
 pub fn one_text()
     ensures texts { HasOneText }
     ensures compiled { HasOneTextBy }
@@ -38,8 +38,8 @@ pub fn one_text()
     one_reply();
 }
 
-/// Law: the reply to `judge` is the reply to `packet`, if the configurations agree; of a malformed packet it says why, too. It runs
-/// nothing.
+/// Law: the reply to `judge` is the reply to `packet`, if the configurations agree. For a malformed packet it says why, too. It
+/// runs nothing.
 #[tactic(auto, using(crate::proofs::JudgeLemmas::judges_as_packet, crate::proofs::JudgeLemmas::says_why_malformed))]
 pub fn judged_as_packet()
     ensures same { JudgesAsPacket }

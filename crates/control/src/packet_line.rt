@@ -7,21 +7,22 @@ ghost use Rattle.control.specs.body.Packet.{IsReadInto};
 use control_line::{LINE_LIMIT, OutOfMemory, Reason, read_packet};
 use std::alloc::Global;
 
-/// What the line of a script has whose digits are good: a packet, or too many bytes for one.
+/// The content of a script's line with good digits: a packet, or too many bytes for one.
 #[derive(Drop)]
 pub enum PacketLine {
     Packet(Vec<u8>),
     TooLong,
 }
 
-/// The same of a line whose packet was read into a buffer.
+/// The same for a line whose packet was read into a buffer.
 #[derive(Clone, Copy)]
 pub(crate) enum PacketSize {
     Whole,
     TooLong,
 }
 
-/// Reads the packet of a script's line that is not too long and has good digits. `None` is another line, which is a control line.
+/// Reads the packet of a script's line that is not too long and has good digits. Returns `None` for any other line, which is a
+/// control line.
 pub fn read_packet_line(alloc: Global, text: &[u8]) -> Result<Option<PacketLine>, OutOfMemory>
     ensures read { IfOk result (λ line. MatchOption line (HasNoPacket text.now) (IsPacketRead text.now)) }
 {
@@ -33,7 +34,7 @@ pub fn read_packet_line(alloc: Global, text: &[u8]) -> Result<Option<PacketLine>
     }
 }
 
-/// The same, into a buffer that is used again.
+/// Reads the packet as `read_packet_line` does, but into a buffer that is used again.
 pub(crate) fn read_packet_into(
     text: &[u8],
     packet: &mut Vec<u8>,

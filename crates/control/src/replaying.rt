@@ -1,4 +1,4 @@
-//! Replaying a script: each request of an input is answered by one line (docs/COMMANDS.md, "replay").
+//! Replaying a script: each request of an input has one line as its reply (docs/COMMANDS.md, "replay").
 
 ghost use Rattle.std.specs.Prelude.{◌≡◌, Err, OnOk};
 ghost use Rattle.control.specs.declared.fault.ReplayFault.TheVariants as replay_fault;
@@ -13,13 +13,13 @@ use std::alloc::Global;
 // How many bytes are read at once.
 const CHUNK: usize = 8192;
 
-/// Answers each request that the reader gives by one line, from the configuration without groups on. A request is a line, or a block:
-/// a first line such as `all 3` and the lines that it counts.
+/// Writes one reply to each request of the reader, beginning with the configuration without groups. A request is a line, or a
+/// block: a first line such as `all 3` and the lines that it counts.
 ///
-/// A reply is written before the next read. Of a request it holds no more than shows that it is too long. All workers meet the
-/// operator after each request, so no publication is busy. It ends at the first read of 0 bytes, or at the first fault: at
-/// `ReadFailed` it has answered each request that was read whole, at `WriteFailed` a beginning of the replies was written, and at
-/// `OutOfMemory` the replies to some first requests.
+/// A reply is written before the next read. If a request is too long, only enough is kept to show that. All workers meet the operator
+/// after each request, so no publication is busy. The replay ends at the first read of 0 bytes, or at the first fault. At
+/// `ReadFailed`, each request that was read whole has its reply. At `WriteFailed`, a beginning of the replies was written. At
+/// `OutOfMemory`, the replies to some first requests were written.
 pub fn replay<R: Input, W: Output>(
     alloc: Global,
     reader: &mut R,

@@ -1,4 +1,4 @@
-//! Replies that wait, so that those to what one read brought are written together.
+//! Replies that wait, so that the replies to the requests of one read are written together.
 
 ghost use Rattle.std.specs.Prelude.{◌≡◌, ◌+◌, ◌<◌, ◌≤◌, ◌++◌, ◌∷◌, [], OnErr, OnOk, length};
 ghost use Rattle.std.specs.Io.KnownBytes.{Appends};
@@ -12,7 +12,7 @@ use control_line::Reply;
 use dispatch::Failed;
 use std::marker::Model;
 
-/// How many bytes wait at most: what one write to a pipe keeps together (PIPE_BUF of Linux). Each reply has room in it, with its LF.
+/// The most bytes that wait: those that one write to a pipe keeps together (PIPE_BUF of Linux). Each reply has room, with its LF.
 pub(crate) const ROOM: usize = 4096;
 
 /// Replies, each with its LF, that are not written yet.
@@ -43,7 +43,7 @@ impl Replies {
         }
     }
 
-    /// Adds a reply and its LF. Where there is no room for them, what waits is written first.
+    /// Adds a reply and its LF. If there is no room for them, first writes the bytes that wait.
     pub(crate) fn add<W: Output>(&mut self, reply: &Reply, writer: &mut W) -> Result<(), Failed>
         ensures added { OnOk result (WritesAllBut self.new (W.state writer.old).taken (W.state writer.new).taken (self.old ++ (reply.now ++ 10 ∷ []))) }
         ensures beginning { OnErr result (IsWrittenInPart (W.state writer.new).failures (W.state writer.old).taken (W.state writer.new).taken self.old) }
@@ -60,7 +60,7 @@ impl Replies {
         Ok(())
     }
 
-    // There is room for the line.
+    // Appends a line that there is room for.
     fn push(&mut self, line: &[u8])
         requires room { length self.old + length line.now ≤ ROOM }
         ensures pushed { self.new ≡ self.old ++ line.now }
@@ -79,7 +79,7 @@ impl Replies {
         self.len += 1;
     }
 
-    /// Writes what waits.
+    /// Writes the bytes that wait.
     pub(crate) fn write<W: Output>(&self, writer: &mut W) -> Result<(), Failed>
         ensures written { OnOk result (Appends (W.state writer.old).taken (W.state writer.new).taken self.now) }
         ensures beginning { OnErr result (IsWrittenInPart (W.state writer.new).failures (W.state writer.old).taken (W.state writer.new).taken self.now) }

@@ -1,4 +1,4 @@
-//! A script that is read in pieces: the switch that has answered its requests, and the request that has not ended yet.
+//! A script that is read in pieces: the switch that has replied to its requests, and the request that has not ended yet.
 
 ghost use Rattle.std.specs.Prelude.{◌≡◌, ◌∷◌, IfOk, List, MatchOption, Ok, OnOk, Option, [], ℕ};
 ghost use Rattle.ipv4_fields.specs.Cut.{IsSplitAt, Lacks};
@@ -14,7 +14,7 @@ use crate::switch::Switch;
 use memchr::memchr;
 use std::alloc::{AllocError, Global};
 
-/// A script that was answered up to a place of it.
+/// A script whose requests have their replies up to a place of it.
 #[derive(Drop)]
 pub(crate) struct Script {
     switch: Switch,
@@ -32,7 +32,7 @@ impl Script {
         })
     }
 
-    // Answers the request that is held, which ends here. The reply waits.
+    // Replies to the request that is held, which ends here. The reply waits.
     fn answer_held<W: Output>(
         &mut self,
         alloc: Global,
@@ -53,7 +53,7 @@ impl Script {
         Ok(())
     }
 
-    // Ends a line. If the request ends with it, it is answered, and the reply waits.
+    // Ends a line. If the request ends with it, replies to the request, and the reply waits.
     fn end_line<W: Output>(
         &mut self,
         alloc: Global,
@@ -72,7 +72,7 @@ impl Script {
         self.answer_held(alloc, replies, writer)
     }
 
-    // Takes the next bytes, and answers each request that they end. The last replies wait.
+    // Takes the next bytes, and replies to each request that they end. The last replies wait.
     fn answer_lines<W: Output>(
         &mut self,
         alloc: Global,
@@ -95,7 +95,7 @@ impl Script {
         Ok(self.held.add(left)?)
     }
 
-    /// Takes the next bytes, and answers each request that they end. All replies are written then.
+    /// Takes the next bytes, and replies to each request that they end. Writes all replies.
     pub(crate) fn take<W: Output>(
         &mut self,
         alloc: Global,
@@ -113,7 +113,7 @@ impl Script {
         write_waiting(answered, &replies, writer)
     }
 
-    /// Ends the script, and answers its last request if its end was not read.
+    /// Ends the script, and replies to its last request if the request's end was not read.
     pub(crate) fn end<W: Output>(
         &mut self,
         alloc: Global,
@@ -146,7 +146,7 @@ fn split_line(text: &[u8]) -> Option<(&[u8], &[u8])>
     Some((&text[..end], &text[end + 1..]))
 }
 
-// Writes the replies that wait, also where memory was refused behind them. Where a write failed nothing more is written.
+// Writes the replies that wait, also if memory was refused after them. If a write failed, writes nothing more.
 fn write_waiting<W: Output>(
     answered: Result<(), ReplayFault>,
     replies: &Replies,

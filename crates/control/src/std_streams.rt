@@ -9,7 +9,7 @@ use dispatch::Failed;
 use std::io::{Read, Write};
 use std::marker::Model;
 
-/// How many bytes an input over a reader gives at most.
+/// The most bytes that an input over a reader returns.
 pub const READ_LIMIT: u64 = 1 << 63;
 
 /// Law: the limit, as a number. It runs nothing.
@@ -17,10 +17,10 @@ pub fn limits_as_numbers()
     ensures { READ_LIMIT ≡ 9223372036854775808 }
 {}
 
-/// The bytes of a reader. It fails where a read of the reader does, also where one was interrupted; and after `READ_LIMIT` bytes.
+/// The bytes of a reader. Fails if a read of the reader fails, also if it was interrupted; and after `READ_LIMIT` bytes.
 ///
-/// Contracts see how often it failed; what it reads is no longer told where 2^64 - 1 reads failed, and then it reads no more, and
-/// answers as at the end.
+/// Contracts see how often it failed. After 2^64 - 1 failures they no longer see what it reads; then it reads no more, and returns 0 as
+/// at the end.
 #[derive(Drop)]
 pub struct FromRead<R: Read> {
     reader: R,
@@ -70,11 +70,10 @@ impl<R: Read> Input for FromRead<R> {
     }
 }
 
-/// A writer. It fails where a write of the writer does, also where one was interrupted; and where the writer takes none of some
-/// bytes.
+/// A writer. Fails if a write of the writer fails, also if it was interrupted; and if the writer takes none of some bytes.
 ///
-/// It ends by `into_inner`. Contracts see how often it failed, and the name of its borrow; what it wrote is no longer told where
-/// 2^64 - 1 writes failed, and then it writes no more, and answers as if all were taken.
+/// It ends by `into_inner`. Contracts see how often it failed, and the name of its borrow. After 2^64 - 1 failures they no longer
+/// see what it wrote; then it writes no more, and returns as if all bytes were taken.
 pub struct ToWrite<'a, W: Write> {
     writer: &'a mut W,
     failures: u64,
@@ -105,7 +104,7 @@ impl<'a, W: Write> ToWrite<'a, W> {
         }
     }
 
-    /// Hands the writer back, which is as the writes have left it.
+    /// Returns the writer, which is as the writes have left it.
     pub fn into_inner(self) -> &'a mut W
         ensures same_reference { result.ghost_name ≡ self.entry.borrow }
         ensures contents { self.entry.output.failures < MOST_FAILURES → W.contents result.now ≡ self.entry.output.taken }

@@ -1,4 +1,4 @@
-//! Inputs and outputs: where a script comes from, and where its replies go (docs/COMMANDS.md, "replay").
+//! Inputs and outputs: the source of a script, and the destination of its replies (docs/COMMANDS.md, "replay").
 
 ghost use Rattle.std.specs.Prelude.{◌≡◌, ◌+◌, ◌<◌, ◌≤◌, IfOk, MatchResult, length};
 ghost use Rattle.dispatch.specs.Device.{CountsFailure};
@@ -6,11 +6,11 @@ ghost use Rattle.control.specs.Streams.{GivesNext, InputValue, OutputValue, Take
 
 use dispatch::Failed;
 
-/// Where a script's bytes come from.
+/// The source of a script's bytes.
 pub trait Input {
     ghost state: { Self → InputValue };
 
-    /// Reads bytes into the front of `buf`, and tells how many. 0 bytes are the end, where `buf` has room.
+    /// Reads bytes into the front of `buf`, and returns how many. 0 bytes mean the end, if `buf` has room.
     fn read(&mut self, buf: &mut [u8]) -> Result<usize, Failed>
         ensures device_failed { CountsFailure result (state self.old).failures (state self.new).failures }
         ensures within { IfOk result (λ size. size ≤ length buf.new) }
@@ -20,16 +20,16 @@ pub trait Input {
             (λ failed. (state self.new).left ≤ (state self.old).left) };
 }
 
-/// Where the replies go.
+/// The destination of the replies.
 pub trait Output {
-    // What an implementor keeps beside that: a type and a value for contracts alone.
+    // State that an implementor keeps beside that: a type and a value for contracts alone.
     ghost Rest: { Type 0 } = { Unit {0} };
 
     ghost state: { Self → OutputValue };
 
     ghost rest: { Self → Rest };
 
-    /// Writes the first of the bytes, and tells how many: of some bytes at least one.
+    /// Writes a beginning of the bytes, and returns its length, which is at least 1 if there are bytes.
     fn write(&mut self, bytes: &[u8]) -> Result<usize, Failed>
         ensures device_failed { CountsFailure result (state self.old).failures (state self.new).failures }
         ensures within { IfOk result (λ size. size ≤ length bytes.now) }

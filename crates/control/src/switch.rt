@@ -1,4 +1,4 @@
-//! The switch that a script is given: an operator and its workers, which meet after each line (docs/COMMANDS.md, "replay").
+//! The switch that a script is given: an operator and its workers, which meet after each request (docs/COMMANDS.md, "replay").
 
 ghost use Rattle.std.specs.Prelude.{◌≡◌, ◌≤◌, IfOk, OnOk, length};
 ghost use Rattle.bpf_machine.specs.declared.TheConstants.{MAX_PACKET};
@@ -34,7 +34,7 @@ fn meet_all(operator: &mut Operator, workers: &mut [Worker])
     }
 }
 
-// Judges a packet in a section of its own, and tells the section's version.
+// Judges a packet in its own section. The reply says the section's version.
 fn judge_packet(worker: &mut Worker, packet: &[u8]) -> Reply
     requires packet { length packet.now ≤ MAX_PACKET }
     ensures judged { JudgesPacket worker.old worker.new packet.now result }
@@ -61,7 +61,7 @@ impl Switch {
         })
     }
 
-    /// Does what a line asks for, and makes its reply. The workers have met the operator again then.
+    /// Executes a request, and returns the reply. The workers have met the operator again then.
     pub(crate) fn answer(&mut self, alloc: Global, text: &[u8]) -> Result<Reply, AllocError>
         requires outside { AreOutside self.old.operator.table self.old.workers.items }
         ensures replies { IfOk result (λ reply. (now : Standing) → IsReady self.old.operator self.old.workers.items now →

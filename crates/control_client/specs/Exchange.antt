@@ -9,7 +9,7 @@ use Rattle.command_line.specs.declared.ending.Failure.{Failure}
 use Rattle.command_line.specs.declared.ending.Failure.TheVariants.{BindFailed, NoAnswer, OutOfMemory, PollFailed, ReadFailed, RulesChanged, SpawnFailed, WriteFailed}
 use Rattle.control_client.specs.Wire.{Event, Logs, came, none_came, send_failed, sent, wait_failed}
 
--- a line, and what it was replied
+-- a line, and its reply
 pub record Exchange : Type 0 where
   pub line : List ℕ
   pub reply : List ℕ
@@ -73,7 +73,7 @@ reply_line reply = reply ++ 10 ∷ []
 abbrev pub text_of : List Exchange → List ℕ
 text_of told = flat_map (λ (one : Exchange). reply_line one.reply) told
 
--- a reply that tells that its line was not done
+-- a reply that says that its line was not done
 abbrev pub is_refusal : List ℕ → Bool
 is_refusal reply = starts_with nat_eq reply (codes "refused ") || starts_with nat_eq reply (codes "failed ")
 

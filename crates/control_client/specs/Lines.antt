@@ -1,4 +1,4 @@
--- The lines that are given, and the requests that they are told as (docs/COMMANDS.md, "tell").
+-- The lines that are given, and the requests that they are sent as (docs/COMMANDS.md, "tell").
 use Rattle.std.specs.Prelude.{◌≡◌, ◌≢◌, ◌<◌, ◌++◌, ◌∷◌, Bool, List, None, Option, Some, [], codes, decimal, false, length, map, suc, true, ℕ}
 use Rattle.std.specs.Option.{option_map}
 use Rattle.control_line.specs.Answer.{NumberedLine}
@@ -10,7 +10,8 @@ use Rattle.control_line.specs.declared.head.Head.{Head}
 abbrev pub lines_known : Option (List ℕ) → Option (List (List ℕ))
 lines_known text = option_map lines_in text
 
--- those of a script that are told, each with its number among all lines: those that a rules file does not skip, without the CR at the end
+-- the lines of a script that are sent, each with its number among all lines: those that a rules file does not skip, without the CR
+-- at the end
 abbrev pub script_known : Option (List ℕ) → Option (List NumberedLine)
 script_known text = option_map rules_in text
 
@@ -48,8 +49,8 @@ GivesNumbered before after line None = AreNone before after
 
 -- ---- requests
 
--- the bytes of a request, and where it is in the input: the number of its line, or of the first line of its block, and the numbers of
--- the other lines of the block. All lines as one change have no first line in the input
+-- the bytes of a request, and its place in the input: the number of its line, or of the first line of its block, and the numbers of
+-- the other lines of the block. If all lines are one change, it has no first line in the input
 pub record Request : Type 0 where
   pub head : Option ℕ
   pub lines : List ℕ

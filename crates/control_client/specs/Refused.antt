@@ -4,7 +4,7 @@ use Rattle.std.specs.List.{filter}
 use Rattle.control_client.specs.Exchange.{Exchange, is_refusal}
 use Rattle.control_client.specs.Lines.{Request}
 
--- a request, and what it was replied
+-- a request, and its reply
 pub record Told : Type 0 where
   pub request : Request
   pub reply : List ℕ
@@ -18,7 +18,7 @@ exchanges_of told = map exchange_of told
 abbrev pub requests_of : List Told → List Request
 requests_of told = map (λ (one : Told). one.request) told
 
--- a request that was not done: where it is in the input, and its reply
+-- a request that was not done: its place in the input, and its reply
 pub record Refusal : Type 0 where
   pub head : Option ℕ
   pub lines : List ℕ

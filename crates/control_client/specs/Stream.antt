@@ -1,4 +1,4 @@
--- What is received of a stream (docs/COMMANDS.md, "tell").
+-- The lines that are received of a stream (docs/COMMANDS.md, "tell").
 use Rattle.std.specs.Prelude.{◌≡◌, ◌≢◌, ◌<◌, List, [], codes, length, slice_index, take, ℕ}
 use Rattle.ipv4_fields.specs.Cut.{Lacks}
 

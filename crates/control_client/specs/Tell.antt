@@ -1,4 +1,4 @@
--- What `tell` leaves: which requests were exchanged, what was printed, and what was shown (docs/COMMANDS.md, "tell").
+-- The effect of `tell`: which requests were exchanged, what was printed, and what was shown (docs/COMMANDS.md, "tell").
 use Rattle.std.specs.Prelude.{◌≡◌, ◌++◌, ◌∷◌, ◌⊎◌, Bool, List, None, Option, [], ℕ}
 use Rattle.std.specs.Io.KnownBytes.{Appends}
 use Rattle.control_line.specs.Answer.{NumberedLine}
@@ -70,8 +70,8 @@ module _ {S : Type 0} (Shows : S → S → Refusal → Type 0) where
     pub first_shown : ShowsAll Shows shown shown' (refusals_of told)
     pub stopped : StopsBehind fault switch coming (requests_of told) log_then log' out_then out'
 
-  -- over a socket it ended by a fault: the socket was not made, and nothing was printed or shown, or after the first requests. What
-  -- happens on the socket is not told
+  -- over a socket it ended by a fault: the socket was not made, and nothing was printed or shown, or after the first requests.
+  -- Nothing is known of what happens on the socket
   pub data StopsOverSocket (fault : Failure) (switch : Peer) (coming : Option (List NumberedLine)) (out out' : Option (List ℕ)) (shown shown' : S) : Type 0 where
     not_made : IsMakingFault fault → out' ≡ out → shown' ≡ shown → StopsOverSocket fault switch coming out out' shown shown'
     stopped_behind : TellsFirst fault switch coming None None out out' shown shown' → StopsOverSocket fault switch coming out out' shown shown'

@@ -1,4 +1,4 @@
--- What people read of a connection that failed (docs/COMMANDS.md, "tell").
+-- The text for people about a connection that failed (docs/COMMANDS.md, "tell").
 use Rattle.std.specs.Prelude.{◌≡◌, ◌++◌, List, codes, ℕ}
 use Rattle.control_client.specs.declared.trouble.Trouble.{Trouble}
 use Rattle.control_client.specs.declared.trouble.Trouble.TheVariants.{Closed, Endless, LongPath, Unconnected}

@@ -13,7 +13,7 @@ use crate::refused::{Explains, Places};
 use command_line::Failure;
 use std::io::Write;
 
-/// How many replies from elsewhere are passed over while a line waits for its reply.
+/// The number of replies from elsewhere that ends the wait for a line's reply. Fewer are passed over.
 pub const FOREIGN_LIMIT: usize = 4096;
 
 /// The most bytes of a reply.
@@ -36,7 +36,8 @@ fn hear<D: Wire>(wire: &mut D, switch: Peer, room: &mut [u8]) -> Result<usize, F
     Err(Failure::NoAnswer)
 }
 
-/// Sends a line, and returns its reply, which is received into `room`. A line that the wire does not carry is not sent, and refused.
+/// Sends a line, and returns its reply, which is received into `room`. A line that the wire does not carry is not sent, and is
+/// refused.
 pub fn ask<'a, D: Wire>(
     wire: &mut D,
     switch: Peer,
@@ -56,7 +57,8 @@ pub fn ask<'a, D: Wire>(
     Ok(&room[..size])
 }
 
-/// Sends the request, prints its reply, and shows it if the request was not done. True if so. `room` is for the reply.
+/// Sends the request, prints its reply, and shows the reply if the request was not done. Returns true if it was not done. `room` is
+/// for the reply.
 pub(crate) fn exchange<D: Wire, W: Write, E: Write, X: Explains>(
     wire: &mut D,
     switch: Peer,

@@ -1,4 +1,4 @@
-//! What a wire carries as one request: a datagram, or lines of a stream (docs/COMMANDS.md, "tell").
+//! The requests that a wire carries: a datagram, or lines of a stream (docs/COMMANDS.md, "tell").
 
 ghost use Rattle.std.specs.Prelude.{◌≡◌, MatchOption};
 ghost use Rattle.control_line.specs.Block.{EndsLine, HasHead};
@@ -14,7 +14,7 @@ use memchr::memchr;
 /// The most bytes of a request that a datagram carries: those of a UDP datagram over IPv4 without its headers.
 pub const LONGEST_LINE: usize = 65_507;
 
-// What a switch replies to a request that is too long, and to one that is none.
+// The replies of a switch to a request that is too long, and to one that is none.
 const TOO_LONG: &[u8] = b"refused C2";
 
 const NO_REQUEST: &[u8] = b"refused C1";
@@ -73,10 +73,10 @@ fn stream_unsent(text: &[u8]) -> Option<&'static [u8]>
     None
 }
 
-/// The reply to a request that no wire to this peer carries. `None` if it is carried.
+/// Returns the reply to a request that no wire to this peer carries, or `None` if it is carried.
 ///
-/// A datagram has `LONGEST_LINE` bytes. A stream has the limits of the switch, and ends each line at LF: a line with an LF in it, or a
-/// block with fewer or more lines than it says, would get no reply or several.
+/// A datagram carries at most `LONGEST_LINE` bytes. A stream has the limits of the switch, and ends each line at LF: a line with an
+/// LF in it, or a block with fewer or more lines than it says, would get no reply or several.
 pub fn unsent_reply(peer: Peer, text: &[u8]) -> Option<&'static [u8]>
     ensures { MatchOption result (IsCarried peer text.now) (λ reply. IsRefusedUnsent peer text.now reply.now) }
 {

@@ -46,7 +46,7 @@ impl<R: Clock> Connection<'_, R> {
         self.deadline = deadline;
     }
 
-    /// Whether the switch has neither closed the connection nor sent anything on it that was not asked for.
+    /// Tests whether the switch has neither closed the connection nor sent anything on it that was not asked for.
     pub(crate) fn is_quiet(&mut self) -> bool {
         let mut room = [0; 1];
         match self.stream.read(&mut room) {

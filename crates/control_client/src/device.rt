@@ -38,7 +38,7 @@ pub struct Came {
     pub len: usize,
 }
 
-/// Where requests go, and where their replies come from.
+/// The destination of requests, and the source of their replies.
 pub trait Wire {
     ghost log: { Self → Option (List Event) };
 

@@ -1,4 +1,4 @@
-//! The lines to tell: those of a script, or words that are a line each (docs/COMMANDS.md, "tell").
+//! The lines to send: those of a script, or words that are a line each (docs/COMMANDS.md, "tell").
 
 ghost use Rattle.std.specs.Prelude.{◌≡◌, ◌⊎◌, IfErr, IfOk, List, Option, Some, map, ℕ};
 ghost use Rattle.control_client.specs.Lines.{GivesNext, GivesNumbered, lines_known, script_after, script_known};
@@ -11,12 +11,12 @@ use control_line::{is_skipped, without_return};
 use std::io::{BufRead, Error, ErrorKind};
 use std::marker::Model;
 
-/// Where lines come from.
+/// A source of lines.
 pub trait Lines {
     /// The lines to come, with their numbers.
     ghost coming: { Self → Option (List NumberedLine) };
 
-    /// Puts the next line, without LF, in place of what `line` has, and returns its number. `None` if there is none.
+    /// Replaces the contents of `line` by the next line, without LF, and returns its number. Returns `None` if there is none.
     fn next(&mut self, line: &mut Vec<u8>) -> Result<Option<u64>, Failure>
         ensures next_line { IfOk result (GivesNumbered (coming self.old) (coming self.new) line.new.items) }
         ensures faults { IfErr result (λ fault. (fault ≡ Failure.ReadFailed) ⊎ (fault ≡ Failure.OutOfMemory)) };
@@ -49,7 +49,7 @@ impl<B: BufRead> InputLines<B> {
     }
 }
 
-// Takes the LF off the end, where there is one.
+// Takes the LF off the end, if there is one.
 fn drop_end(line: &mut Vec<u8>)
     ensures { line.new.items ≡ without_end line.old.items }
 {
@@ -67,7 +67,7 @@ fn read_fault(error: &Error) -> Failure
     }
 }
 
-// Puts the next line of an input, without LF, in place of what `line` has. False if there is none.
+// Replaces the contents of `line` by the next line of an input, without LF. Returns false if there is none.
 fn read_line<B: BufRead>(input: &mut B, line: &mut Vec<u8>) -> Result<bool, Failure>
     ensures next_line { IfOk result (GivesNext (lines_known (B.remaining input.old)) (lines_known (B.remaining input.new)) line.new.items) }
     ensures faults { IfErr result (λ fault. (fault ≡ Failure.ReadFailed) ⊎ (fault ≡ Failure.OutOfMemory)) }
@@ -91,8 +91,8 @@ fn drop_return(line: &mut Vec<u8>)
     line.truncate(len);
 }
 
-// Puts the next line that is told in place of what `line` has, and returns its number. `None` if there is none. `read` counts the lines
-// that were read.
+// Replaces the contents of `line` by the next line that is sent, and returns its number. Returns `None` if there is none. `read`
+// counts the lines that were read.
 fn read_told<B: BufRead>(
     input: &mut B,
     read: &mut u64,

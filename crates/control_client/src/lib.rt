@@ -1,4 +1,4 @@
-//! Telling control lines to a running switch (docs/COMMANDS.md, "tell").
+//! Sending control lines to a running switch (docs/COMMANDS.md, "tell").
 //!
 //! `tell` sends requests over any `Wire`, one at a time, and prints the replies; `tell_change` sends all lines as one change. Both show
 //! people, by any `Explains`, which requests were not done. `SocketWire` is a wire over a UDP socket, or over the socket file of a
@@ -53,13 +53,13 @@ pub fn limits_as_numbers()
     ensures foreign { FOREIGN_LIMIT ≡ 4096 }
 {}
 
-/// Sends each request to the switch, and prints its reply with LF. A line is a request; the first line of a block takes the lines of
-/// the block with it. If a reply says that its request was not done, since it begins with `refused ` or `failed `, it is shown on
-/// `errs` too, and the result is true.
+/// Sends each request to the switch, and prints its reply with LF. A line is a request; the first line of a block takes the lines
+/// of the block with it. A reply that begins with `refused ` or `failed ` says that its request was not done. Such a reply is shown
+/// on `errs` too, and the result is true.
 ///
-/// A request is sent when the reply to the one before was printed and flushed. It goes on after one that was not done, and ends at
-/// the first one without an answer. So an answer that comes late is taken for no other request's. A request that the wire does not
-/// carry is not sent, and `unsent_reply` is its reply. It tells 2^64 - 1 requests at most.
+/// A request is sent after the reply to the one before was printed and flushed. The call goes on after a request that was not done,
+/// and ends at the first request without a reply. So a late reply is never taken for another request's reply. A request that the
+/// wire does not carry is not sent, and `unsent_reply` is its reply. At most 2^64 - 1 requests are sent.
 pub fn tell<L: Lines, D: Wire, W: Write, E: Write, X: Explains>(
     alloc: Global,
     lines: &mut L,
@@ -95,7 +95,7 @@ pub fn tell<L: Lines, D: Wire, W: Write, E: Write, X: Explains>(
     Err(Failure::ReadFailed)
 }
 
-/// Tells the lines over a socket of its own.
+/// Sends each request over its own socket, as `tell` does.
 pub fn tell_over_socket<R: Clock + Net, L: Lines, W: Write, E: Write, X: Explains>(
     rt: &R,
     alloc: Global,
@@ -114,8 +114,8 @@ pub fn tell_over_socket<R: Clock + Net, L: Lines, W: Write, E: Write, X: Explain
     tell(alloc, lines, &mut wire, reach.peer(), out, errs, explains)
 }
 
-/// Sends all lines to the switch as one change, `all N` and the N lines, and prints its reply with LF. True if the reply says that the
-/// change was not done; then it is shown on `errs` too.
+/// Sends all lines to the switch as one change, `all N` and the N lines, and prints its reply with LF. Returns true if the reply
+/// says that the change was not done; then the reply is shown on `errs` too.
 ///
 /// A change that the wire does not carry is not sent, and `unsent_reply` is its reply.
 pub fn tell_change<L: Lines, D: Wire, W: Write, E: Write, X: Explains>(
@@ -144,7 +144,7 @@ pub fn tell_change<L: Lines, D: Wire, W: Write, E: Write, X: Explains>(
     exchange(wire, switch, asked, &mut room, out, errs, explains)
 }
 
-/// Tells all lines as one change over a socket of its own.
+/// Sends all lines as one change over its own socket, as `tell_change` does.
 pub fn tell_change_over_socket<R: Clock + Net, L: Lines, W: Write, E: Write, X: Explains>(
     rt: &R,
     alloc: Global,

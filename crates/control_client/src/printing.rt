@@ -1,4 +1,4 @@
-//! Printing replies, of which it is known how much was written where a write fails.
+//! Printing replies. If a write fails, a beginning of the reply was written.
 
 ghost use Rattle.std.specs.Prelude.{◌≡◌, IfErr, IfOk, OnErr, OnOk};
 ghost use Rattle.std.specs.Io.KnownBytes.{Appends};
@@ -15,7 +15,7 @@ pub fn is_refusal(reply: &[u8]) -> bool
     reply.starts_with(b"refused ".as_slice()) || reply.starts_with(b"failed ".as_slice())
 }
 
-/// Prints the reply with LF, and flushes it. True where it is a refusal.
+/// Prints the reply with LF, and flushes it. Returns true if the reply is a refusal.
 pub(crate) fn print_reply<W: Write>(reply: &[u8], out: &mut W) -> Result<bool, Failure>
     ensures printed { OnOk result (Appends (W.contents out.old) (W.contents out.new) (reply_line reply.now)) }
     ensures refused { IfOk result (λ refused. refused ≡ is_refusal reply.now) }

@@ -5,10 +5,10 @@ ghost use Rattle.control_client.specs.Refused.{Refusal};
 
 use std::io::Write;
 
-/// Where a request is in the input. Lines are counted from 1, also those that are skipped.
+/// The place of a request in the input. Lines are counted from 1, also those that are skipped.
 #[derive(Clone, Copy)]
 pub struct Places<'a> {
-    /// The number of its line, or of the first line of its block. All lines as one change have no first line in the input.
+    /// The number of its line, or of the first line of its block. A change of all lines has no first line in the input.
     pub head: Option<u64>,
     /// The numbers of the other lines of a block.
     pub lines: &'a [u64],
@@ -16,7 +16,7 @@ pub struct Places<'a> {
 
 /// Shows people the requests that were not done.
 pub trait Explains {
-    /// That a request is shown on a writer that had these bytes, and then has those.
+    /// States that a request is shown on a writer that had these bytes, and then has those.
     ghost shows: { Option (List ℕ) → Option (List ℕ) → Refusal → Type 0 };
 
     /// Shows a request that was not done, by its reply.

@@ -9,7 +9,7 @@ use command_line::Failure;
 use control_line::read_head;
 use std::alloc::Global;
 
-// Adds LF and the next line to a request, and its number to the others. False if there is no line, and then nothing is added.
+// Adds LF and the next line to a request, and its number to the others. Returns false if there is no line, and then adds nothing.
 fn add_line<L: Lines>(
     lines: &mut L,
     line: &mut Vec<u8>,
@@ -51,8 +51,9 @@ fn add_lines<L: Lines>(
     Ok(())
 }
 
-/// Puts the next request in place of what `request` has: a line, or the first line of a block with its lines. The result is the number
-/// of its first line, or `None` if there is no request; `numbers` then has those of the lines of the block. `line` is room for a line.
+/// Replaces the contents of `request` by the next request: a line, or the first line of a block with its lines. Returns the number
+/// of its first line, or `None` if there is no request; `numbers` then has those of the lines of the block. `line` is room for a
+/// line.
 pub(crate) fn next_request<L: Lines>(
     lines: &mut L,
     line: &mut Vec<u8>,
@@ -94,7 +95,7 @@ fn add_all<L: Lines>(
     Err(Failure::ReadFailed)
 }
 
-/// A block of all lines: its first line up to their number, then how many they are, and the lines, each after an LF.
+/// Makes a block of all lines: its first line up to their number, then how many they are, and the lines, each after an LF.
 pub fn block_of<L: Lines>(alloc: Global, front: &[u8], lines: &mut L) -> Result<Vec<u8>, Failure>
     ensures block { IfOk result (λ request. IsBlockOf front.now (L.coming lines.old) request.items) }
     ensures faults { IfErr result (λ fault. (fault ≡ Failure.ReadFailed) ⊎ (fault ≡ Failure.OutOfMemory)) }
@@ -102,7 +103,7 @@ pub fn block_of<L: Lines>(alloc: Global, front: &[u8], lines: &mut L) -> Result<
     numbered_block_of(alloc, front, lines, &mut Vec::new(alloc))
 }
 
-/// The same, with the numbers of the lines in place of what `numbers` has.
+/// Makes the same block, and replaces the contents of `numbers` by the numbers of the lines.
 pub(crate) fn numbered_block_of<L: Lines>(
     alloc: Global,
     front: &[u8],

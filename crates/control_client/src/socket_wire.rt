@@ -14,18 +14,18 @@ use std::cell::Cell;
 use std::net::Net;
 use std::time::Clock;
 
-/// How a switch is reached.
+/// The way to reach a switch.
 #[derive(Clone, Copy)]
 pub struct Reach<'a> {
     pub address: ControlAddress<'a>,
     /// How long a request waits for its reply.
     pub seconds: u64,
-    /// Where it is written down what happened to a connection.
+    /// The record of what happened to a connection.
     pub trouble: &'a Cell<Option<Trouble>>,
 }
 
 impl Reach<'_> {
-    /// The other end of a wire to the switch.
+    /// Returns the other end of a wire to the switch.
     pub fn peer(self) -> Peer
         ensures { result ≡ peer_of self.entry.address }
     {
@@ -36,7 +36,7 @@ impl Reach<'_> {
     }
 }
 
-/// A wire over a socket of its own. Of what happens on it contracts see nothing.
+/// A wire over its own socket. Contracts see nothing of what happens on it.
 #[derive(Drop)]
 pub enum SocketWire<'a, R: Clock + Net> {
     Udp(UdpWire<'a, R>),
@@ -44,7 +44,7 @@ pub enum SocketWire<'a, R: Clock + Net> {
 }
 
 impl<'a, R: Clock + Net> SocketWire<'a, R> {
-    /// A wire to a switch. The connection to a socket file is made for the first request.
+    /// Makes a wire to a switch. The connection to a socket file is made for the first request.
     pub fn open(rt: &'a R, alloc: Global, reach: Reach<'a>) -> Result<SocketWire<'a, R>, Failure>
         ensures faults { IfErr result IsMakingFault }
     {

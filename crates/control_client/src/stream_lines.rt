@@ -47,7 +47,8 @@ fn read_more<S: Read>(from: &mut S, held: &mut Vec<u8>) -> Result<(), LineLost>
     }
 }
 
-/// Receives a line in place of what `held` has, and returns its length without LF. Bytes after it may have come, too.
+/// Receives a line in place of what `held` has, and returns the line's length without LF. `held` may have bytes after the line,
+/// too.
 pub(crate) fn receive_line<S: Read>(from: &mut S, held: &mut Vec<u8>) -> Result<usize, LineLost>
     ensures line { IfOk result (λ len. EndsLineAt len held.new.items) }
     ensures taken { OnOk result (Consumes (S.remaining from.old) (S.remaining from.new) held.new.items) }
@@ -65,7 +66,7 @@ pub(crate) fn receive_line<S: Read>(from: &mut S, held: &mut Vec<u8>) -> Result<
     Err(LineLost::Endless)
 }
 
-/// Whether the next request may be sent on a stream that gave this reply, and these bytes after its LF.
+/// Tests whether the next request may be sent on a stream that returned this reply, and these bytes after the reply's LF.
 ///
 /// A switch closes the stream if it does not know where a request ends, and refuses it. Bytes after a reply would be taken for the
 /// reply to the next request.

@@ -1,4 +1,4 @@
-//! What happened to a connection, for people (docs/COMMANDS.md, "tell").
+//! Reports for people of what happened to a connection (docs/COMMANDS.md, "tell").
 
 ghost use Rattle.std.specs.Prelude.{IfOk, string_bytes};
 ghost use Rattle.control_client.specs.Trouble.{IsTroubleLine};
@@ -22,7 +22,7 @@ pub enum Trouble {
     Endless,
 }
 
-// What people read of an error.
+// The text for people about an error.
 fn error_text(alloc: Global, code: Option<i32>, kind: io::ErrorKind) -> Result<String, AllocError> {
     match code {
         Some(code) => {
@@ -37,12 +37,12 @@ fn error_text(alloc: Global, code: Option<i32>, kind: io::ErrorKind) -> Result<S
 }
 
 impl Trouble {
-    /// The trouble of an error at connecting.
+    /// Returns the trouble of an error at connecting.
     pub(crate) fn at_connecting(error: &io::Error) -> Trouble {
         Trouble::Unconnected(error.raw_os_error(), error.kind())
     }
 
-    /// A line for people, with its LF. The address is `unix:` and the path.
+    /// Returns a line for people, with its LF. The address is `unix:` and the path.
     pub fn line(self, alloc: Global, address: &str) -> Result<String, AllocError>
         ensures { IfOk result (λ line. IsTroubleLine address.now self (string_bytes line)) }
     {

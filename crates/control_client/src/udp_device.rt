@@ -1,4 +1,4 @@
-//! The wire over a UDP socket, which waits for an answer until the time for it is out.
+//! The wire over a UDP socket, which waits for a reply until the timeout.
 
 ghost use Rattle.std.specs.Prelude.{IfErr};
 ghost use Rattle.control_client.specs.Tell.{IsMakingFault};
@@ -19,7 +19,8 @@ const ANY_PORT: Endpoint = Endpoint {
     port: 0,
 };
 
-/// A wire over a socket of its own. Of what happens on it contracts see nothing.
+/// A wire over its own socket. Contracts see nothing of what happens on it.
+/// Why it is not connected: docs/DECISIONS.md, "The client's socket is not connected".
 #[derive(Drop)]
 pub struct UdpWire<'a, R: Clock> {
     clock: &'a R,
@@ -27,12 +28,12 @@ pub struct UdpWire<'a, R: Clock> {
     events: Events,
     socket: UdpSocket,
     timeout: Duration,
-    // When the time for the answer is out. None before a line was sent.
+    // The end of the time for the reply. `None` before a line was sent.
     deadline: Option<Instant>,
 }
 
 impl<'a, R: Clock + Net> UdpWire<'a, R> {
-    /// Binds a socket by which a line is given so many seconds for its answer.
+    /// Binds a socket. A line has `seconds` seconds for its reply.
     pub fn bind(rt: &'a R, alloc: Global, seconds: u64) -> Result<UdpWire<'a, R>, Failure>
         ensures faults { IfErr result IsMakingFault }
     {
@@ -61,7 +62,7 @@ impl<'a, R: Clock + Net> UdpWire<'a, R> {
 }
 
 impl<R: Clock> UdpWire<'_, R> {
-    // How much of the time for the answer is left.
+    // How much of the time for the reply is left.
     fn left(&self) -> Result<Duration, WireFailed> {
         let Some(deadline) = self.deadline else {
             return Err(WireFailed);
@@ -72,7 +73,7 @@ impl<R: Clock> UdpWire<'_, R> {
         }
     }
 
-    // Waits until something may have come, or the time is out. True where it was out before.
+    // Waits until something may have come, or the time is out. Returns true if it was out before.
     fn wait(&mut self) -> Result<bool, WireFailed> {
         let left = self.left()?;
         if left.is_zero() {
@@ -120,7 +121,7 @@ impl<R: Clock> Wire for UdpWire<'_, R> {
                         return Ok(None);
                     }
                 }
-                // That an earlier datagram was refused is passed over.
+                // Another error is ignored, such as that an earlier datagram was refused.
                 _ => {
                     if self.left()?.is_zero() {
                         return Ok(None);

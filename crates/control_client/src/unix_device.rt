@@ -10,7 +10,7 @@ use std::io::ErrorKind;
 use std::net::Net;
 use std::time::{Clock, Duration, Instant};
 
-/// A wire over connections of its own. Of what happens on them contracts see nothing.
+/// A wire over its own connections. Contracts see nothing of what happens on them.
 #[derive(Drop)]
 pub struct UnixWire<'a, R: Clock + Net> {
     rt: &'a R,
@@ -19,14 +19,14 @@ pub struct UnixWire<'a, R: Clock + Net> {
     timeout: Duration,
     // What happened if no reply came.
     trouble: &'a Cell<Option<Trouble>>,
-    // Where the reply to the last request comes, or the next request may be sent.
+    // The connection for the reply to the last request, or for the next request.
     connection: Option<Connection<'a, R>>,
     // What was received for the last request.
     held: Vec<u8>,
 }
 
 impl<'a, R: Clock + Net> UnixWire<'a, R> {
-    /// A wire to the switch at a path, by which a request is given so many seconds for its reply.
+    /// Makes a wire to the switch at a path. A request has `seconds` seconds for its reply.
     pub fn new(
         rt: &'a R,
         alloc: Global,

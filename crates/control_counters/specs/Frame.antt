@@ -10,7 +10,7 @@ use Rattle.counter_text.specs.declared.counters.Counters.{Counters}
 use Rattle.counter_text.specs.declared.counters.GroupCount.{GroupCount}
 use Rattle.counter_text.specs.declared.counters.MemberCount.{MemberCount}
 
--- a member of the group at a key, and where its packets go
+-- a member of the group at a key, and the destination of its packets
 pub record Seat : Type 0 where
   pub key : Endpoint
   pub id : ℕ

@@ -1,4 +1,4 @@
--- What a reading of a switch is (docs/COMMANDS.md, "metrics").
+-- A reading of a switch (docs/COMMANDS.md, "metrics").
 use Rattle.std.specs.Prelude.{◌≡◌, ◌++◌, ◌∷◌, List, None, Option, Some, codes, decimal, ℕ}
 use Rattle.std.specs.Borrow.{Bor}
 use Rattle.control_client.specs.Exchange.{Exchange}

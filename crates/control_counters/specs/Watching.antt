@@ -1,4 +1,4 @@
--- What lines that change nothing say of a switch: of its configurations, and how often what was counted.
+-- The knowledge of a switch from lines that change nothing: its configurations, and how often each event was counted.
 use Rattle.std.specs.Prelude.{◌≡◌, ◌⊎◌, List, codes, ℕ}
 use Rattle.std.specs.List.{All}
 use Rattle.ipv4_fields.specs.declared.endpoint.Endpoint.{Endpoint}
@@ -12,7 +12,7 @@ abbrev pub IsCountLine : List ℕ → Type 0
 IsCountLine line =
     (line ≡ codes "totals") ⊎ (((key : Endpoint) × (line ≡ group_line key)) ⊎ ((key : Endpoint) × (id : ℕ) × (line ≡ member_line key id)))
 
--- lines that change nothing were exchanged, and no others, and this holds of them for each history that their replies are true to
+-- lines that change nothing were exchanged, and no others, and this is true of them for each history that their replies are true to
 pub record Watches (before after : ClientValue) (Holds : History → List Exchange → Type 0) : Type 0 where
   pub told : List Exchange
   pub events : List Event

@@ -1,4 +1,5 @@
-//! Lines that ask for counts, sent to a switch, and the counts in their replies. None if a reply has none, as a refusal.
+//! Lines that ask for counts, sent to a switch, and the counts in their replies. A result is `None` if a reply has no counts, such as
+//! a refusal.
 
 ghost use Rattle.std.specs.Prelude.{◌≡◌, ◌∷◌, [], IfOk, IfSome};
 ghost use Rattle.control_rules.specs.Shown.{IsShownOf};

@@ -47,7 +47,7 @@ fn count_members<D: Wire + Drop>(
     Ok(Some(members))
 }
 
-/// Counts these groups and members anew. None if a reply has no counts, as when one of them has gone.
+/// Counts these groups and members anew. Returns `None` if a reply has no counts, for example because a group or member has gone.
 pub(crate) fn counted<D: Wire + Drop>(
     client: &mut Client<D>,
     known: &Counters,

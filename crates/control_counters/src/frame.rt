@@ -14,7 +14,7 @@ use control_rules::{Client, Shown, ask_group, ask_member};
 use counter_text::{Counters, GroupCount, MemberCount, Totals};
 use ipv4_fields::Endpoint;
 
-// Adds the members of a group. False if a reply is of another version, or shows no member.
+// Adds the members of a group. Returns false if a reply is of another version, or shows no member.
 fn push_seats<D: Wire + Drop>(
     client: &mut Client<D>,
     version: u64,
@@ -47,7 +47,7 @@ fn push_seats<D: Wire + Drop>(
     Ok(true)
 }
 
-// Adds a group with its members. False if a reply is of another version, or shows no group or member.
+// Adds a group with its members. Returns false if a reply is of another version, or shows no group or member.
 fn push_group<D: Wire + Drop>(
     client: &mut Client<D>,
     version: u64,
@@ -93,7 +93,7 @@ fn push_groups<D: Wire + Drop>(
     Ok(true)
 }
 
-/// Reads the groups and members of the version that was shown. None if the rules changed meanwhile.
+/// Reads the groups and members of the version that was shown. Returns `None` if the rules changed meanwhile.
 pub(crate) fn read_frame<D: Wire + Drop>(
     client: &mut Client<D>,
     shown: Shown,

@@ -19,7 +19,7 @@ use std::time::{Clock, Instant};
 #[derive(Drop)]
 pub struct Reading {
     pub counters: Counters,
-    /// When counting began, after the groups and members were known.
+    /// The time at which counting began, after the groups and members were known.
     pub begun: Instant,
 }
 
@@ -32,7 +32,7 @@ fn now<R: Clock>(clock: &R) -> Result<Instant, Failure>
     }
 }
 
-// Tests whether the rules are still those of an earlier reading, as far as their measures say it.
+// Tests whether the rules are still those of an earlier reading, as far as their measures say so.
 fn is_unchanged(known: &Counters, shown: Shown) -> bool
     ensures { IsTrue result → known.now.version ≡ shown.version }
 {
@@ -42,7 +42,7 @@ fn is_unchanged(known: &Counters, shown: Shown) -> bool
         && known.members.len() == shown.members as usize
 }
 
-// Counts the groups and members of an earlier reading. None if a total fell: the switch is another one.
+// Counts the groups and members of an earlier reading. Returns `None` if a total fell: the switch is another one.
 fn recounted<R: Clock, D: Wire + Drop>(
     clock: &R,
     client: &mut Client<D>,
@@ -97,8 +97,8 @@ fn read_once<R: Clock, D: Wire + Drop>(
     }
 }
 
-/// Reads the counters of a switch. If a reply is of another version, or has no counts, it begins again, at most `AGAIN` times. None if
-/// it never came to the end.
+/// Reads the counters of a switch. If a reply is of another version, or has no counts, begins again, at most `AGAIN` times. Returns
+/// `None` if no attempt came to the end.
 ///
 /// The groups and members of an earlier reading are not read again if the version and the measures are still the same, and no total
 /// fell.

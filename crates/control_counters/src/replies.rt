@@ -1,4 +1,4 @@
-//! The replies that tell counts, as values (docs/COMMANDS.md, "serve").
+//! The replies that report counts, as values (docs/COMMANDS.md, "serve").
 
 ghost use Rattle.std.specs.Prelude.{◌≡◌, ◌∷◌, IfSome, decimal};
 ghost use Rattle.control_counters.specs.Frame.{seat_of};
@@ -18,7 +18,7 @@ fn count_after(fields: &mut Fields<'_>, word: &str) -> Option<u64>
     number_of(fields.next()?)
 }
 
-/// Reads a reply to `totals`. None if it has another form, as a refusal. So it is below.
+/// Reads a reply to `totals`. Returns `None` if the reply has another form, such as a refusal. The calls below do the same.
 pub(crate) fn read_totals(reply: &[u8]) -> Option<Totals>
     ensures { IfSome result (λ totals. fields_in reply.now ≡ totals_fields totals) }
 {

@@ -1,4 +1,4 @@
--- What a line is answered, and which configuration it leaves (docs/COMMANDS.md, "Control lines").
+-- The answer to a line, and the configuration that it leaves (docs/COMMANDS.md, "Control lines").
 use Rattle.std.specs.Prelude.{◌≡◌, ◌+◌, ◌<◌, ◌≤◌, ◌++◌, ◌∷◌, ◌⊎◌, IfSome, List, None, Option, Some, [], codes, length, suc, ℕ}
 use Rattle.member_group.specs.Charge.{charge_by, members_of}
 use Rattle.member_group.specs.Command.{after}
@@ -52,7 +52,7 @@ MeansBy by (SetFilter key id source) made = (program : LoadedProgram) × IsLoade
 MeansBy by (ClearFilter key id) made = made ≡ ClearFilter key id
 MeansBy by (LockFilter key id) made = made ≡ LockFilter key id
 
--- what is charged for a configuration
+-- the charge of a configuration
 abbrev pub charge_of_text : TextConfig → ℕ
 charge_of_text config = charge_by (λ program. text_charge program.text) config
 
@@ -104,7 +104,7 @@ pub record IsDoneBy (by : Compiler) (config : TextConfig) (line : List ℕ) (nex
   pub spells : Spells line (change command)
   pub leads : LeadsToBy by config command next
 
--- why a configuration refuses one of several lines, each of which has to ask for a change
+-- why a configuration refuses one of several lines, each of which must ask for a change
 pub data RefusesLineBy (by : Compiler) (config : TextConfig) (line : List ℕ) : Reason → Type 0 where
   long : LINE_LIMIT < length line → RefusesLineBy by config line LineTooLong
   no_change : length line ≤ LINE_LIMIT → ((command : Command Source) → ¬ Spells line (change command)) →
@@ -112,7 +112,7 @@ pub data RefusesLineBy (by : Compiler) (config : TextConfig) (line : List ℕ) :
   bad_change : (command : Command Source) (why : Reason) → length line ≤ LINE_LIMIT → Spells line (change command) →
       RefusesBy by config command why → RefusesLineBy by config line why
 
--- what the lines make of a configuration, one after the other
+-- the configuration that the lines make, one after the other
 pub data LeadBy (by : Compiler) : TextConfig → List NumberedLine → TextConfig → Type 0 where
   no_line : (config : TextConfig) → LeadBy by config [] config
   one_more : (config : TextConfig) (line : NumberedLine) (rest : List NumberedLine) (next last : TextConfig) →
@@ -143,8 +143,8 @@ pub data ChangesTogetherBy (by : Compiler) (version : ℕ) (config : TextConfig)
 
 -- ---- requests
 
--- The reply to what a request asks for, and the configuration then. The operator decides whether a change is refused as busy, and
--- what a sweep reclaims.
+-- The reply to a request, and the configuration then. The operator decides whether a change is refused as busy, and what a
+-- sweep reclaims.
 pub data AnswersMessageBy (by : Compiler) (version : ℕ) (config : TextConfig) : Message → LineAnswer → TextConfig → Type 0 where
   other_version : (message : Message) (wanted : ℕ) → wanted_version message ≡ Some wanted → ¬ (wanted ≡ version) →
       AnswersMessageBy by version config message (Refused (OtherVersion version)) config
@@ -199,7 +199,7 @@ AreOne AreAlike one next other also = ((one ≡ other) × AreAlike next also) �
 abbrev pub HaveSameTexts : TextConfig → TextConfig → Type 0
 HaveSameTexts config other = config_over (λ program. program.text) config ≡ config_over (λ program. program.text) other
 
--- A line that does not read has one answer at a version and what its configuration means, but for what the operator has to say.
+-- A line that does not read has one answer at a version and what its configuration means, except for the operator's decisions.
 abbrev pub HasOneAnswer : Type 0
 HasOneAnswer =
     (version : ℕ) (config config' : TextConfig) (line : List ℕ) (one other : LineAnswer) (next also : TextConfig) →
@@ -210,7 +210,7 @@ HasOneAnswer =
 abbrev pub by_function : (Tree → List ℕ) → Compiler
 by_function compiled tree words = words ≡ compiled tree
 
--- With such a compiler each line has one answer and leaves one configuration, but for what the operator has to say.
+-- With such a compiler each line has one answer and leaves one configuration, except for the operator's decisions.
 abbrev pub HasOneAnswerBy : Type 0
 HasOneAnswerBy =
     (compiled : Tree → List ℕ)
@@ -218,12 +218,12 @@ HasOneAnswerBy =
     AnswersBy (by_function compiled) version config line one next →
     AnswersBy (by_function compiled) version config line other also → AreOne (λ after after'. after ≡ after') one next other also
 
--- what the operator does with a refusal: nothing, but for the scans of a publication that is busy
+-- the operator's steps for a refusal: none, but for the scans of a publication that is busy
 abbrev pub DoesRefused : Reason → OperatorValue → OperatorValue → Type 0
 DoesRefused (Publishing Busy) before after = IsBusy before after
 DoesRefused _ before after = after ≡ before
 
--- what it does with each answer
+-- the operator's steps for each answer
 abbrev pub Does : LineAnswer → OperatorValue → OperatorValue → Type 0
 Does (Refused why) before after = DoesRefused why before after
 Does (LineRefused number why) before after = after ≡ before
@@ -236,14 +236,14 @@ Does (PacketJudged version judged) before after = after ≡ before
 Does (PacketMalformed version why) before after = after ≡ before
 Does (Swept reclaimed) before after = Sweeps before after reclaimed.first reclaimed.count
 
--- what a line that reads is answered, from the configuration that was published last
+-- the answer to a line that reads, from the configuration that was published last
 abbrev pub IsReadBack : Reading → OperatorView (List Group) → LineAnswer → Type 0
 IsReadBack reading view answer =
     (config : List Group)
     × IsCurrent view config
     × (answer ≡ reading_answer (λ program. program.words) (number_after view.log) config reading)
 
--- A line is answered: a line that reads from the operator's configuration, and each line for each configuration that agrees with it.
+-- A line has its answer: a line that reads from the operator's configuration, and each line for each configuration that agrees with it.
 pub record IsAnswered (line : List ℕ) (before after : OperatorValue) (answer : LineAnswer) : Type 0 where
   pub steps : Does answer before after
   pub read_back : (reading : Reading) → length line ≤ LINE_LIMIT → Spells line (read reading) → IsReadBack reading before.view answer × (after ≡ before)

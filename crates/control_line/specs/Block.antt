@@ -56,7 +56,7 @@ pub record IsBlock (text : List ℕ) (head : Head) (lines : List (List ℕ)) : T
   pub are_lines : All (Lacks 10) lines
   pub count : length lines ≡ head.count
 
--- what a request is: a line of the table, a change for one version only, or a block
+-- a request: a line of the table, a change for one version only, or a block
 pub data Message : Type 0 where
   single : Request → Message
   for_version : ℕ → Command Source → Message
@@ -78,7 +78,7 @@ wanted_version (block head lines) = head.version
 abbrev pub IsOneMessage : Type 0
 IsOneMessage = (text : List ℕ) (one other : Message) → SpellsMessage text one → SpellsMessage text other → one ≡ other
 
--- a block's first line has a limit of its own; a text without one is limited as a line
+-- a block's first line has its own limit; a text without one is limited as a line
 pub data IsTooLong (text : List ℕ) : Type 0 where
   long_block : (head : Head) (rest : List ℕ) → HasHead text head rest → BLOCK_LIMIT < length rest → IsTooLong text
   long_line : ((head : Head) (rest : List ℕ) → ¬ HasHead text head rest) → LINE_LIMIT < length text → IsTooLong text

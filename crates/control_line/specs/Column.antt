@@ -1,4 +1,4 @@
--- Where a line is at fault, for people (docs/COMMANDS.md, "Rules files").
+-- The column of a line's fault, for people (docs/COMMANDS.md, "Rules files").
 use Rattle.std.specs.Prelude.{◌≡◌, ◌+◌, ◌-◌, ◌∷◌, List, Some, [], if◌then◌else◌, length, min, nat_lt, suc, unwrap_or, ℕ}
 use Rattle.bpf_asm.specs.Code.{asm_code}
 use Rattle.bpf_asm.specs.Line.{ends_line}

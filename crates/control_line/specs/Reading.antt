@@ -1,4 +1,4 @@
--- Lines that read the configuration back, and what they are answered (docs/COMMANDS.md, "Control lines").
+-- Lines that read the configuration back, and their answers (docs/COMMANDS.md, "Control lines").
 use Rattle.std.specs.Prelude.{◌++◌, Err, List, None, Ok, Option, Result, Some, drop, if◌then◌else◌, length, nat_le, replicate, slice_get, take, ℕ}
 use Rattle.bpf_machine.specs.Meaning.{ending_of}
 use Rattle.bpf_machine.specs.declared.TheConstants.{MAX_PACKET}
@@ -19,7 +19,7 @@ use Rattle.control_line.specs.declared.reply.LineAnswer.{LineAnswer}
 use Rattle.control_line.specs.declared.reply.LineAnswer.TheVariants.{GroupRead, MemberRead, PacketJudged, PacketMalformed, Refused, WordsRead}
 
 -- a group by its place among the groups, a member by its index in a group, words of a program from a place on, or the verdict on the
--- packet that digits write
+-- packet that digits spell
 pub data Reading : Type 0 where
   group_at : ℕ → Reading
   member_at : Endpoint → ℕ → Reading
@@ -41,7 +41,7 @@ abbrev pub count_of : {P : Type 0} → (P → List ℕ) → Option P → ℕ
 count_of words_of None = 0
 count_of words_of (Some program) = length (words_of program)
 
--- what a program answers a packet, by its words
+-- the result of a program for a packet, by its words
 abbrev pub value_by_words : {P : Type 0} → (P → List ℕ) → P → List ℕ → ℕ
 value_by_words words_of program packet = returned (ending_of (words_of program) packet)
 
@@ -61,14 +61,14 @@ module _ {P : Type 0} (words_of : P → List ℕ) (version : ℕ) where
   abbrev pub words_answer : ℕ → P → LineAnswer
   words_answer place program = WordsRead version place (length (words_of program)) (window (words_of program) place)
 
-  -- what digits were decoded to: a packet, if it is not too long
+  -- the answer about the packet that digits were decoded to, if it is not too long
   abbrev pub packet_answer : List (GroupOf P) → Result (List ℕ) FromHexError → LineAnswer
   packet_answer config (Err fault) = Refused BadForm
   packet_answer config (Ok packet) =
       if nat_le (length packet) MAX_PACKET then judged_answer version (malformation_of packet) (verdict (value_by_words words_of) config packet)
       else Refused PacketTooLong
 
-  -- what is read of a configuration
+  -- the answer to a line that reads a configuration
   abbrev pub reading_answer : List (GroupOf P) → Reading → LineAnswer
   reading_answer config (group_at index) = or_refused NoGroup (group_answer index (length config)) (slice_get config index)
   reading_answer config (member_at key index) =

@@ -27,7 +27,7 @@ refusal_text reason = codes "refused " ++ code_text (reason_code reason)
 
 -- ---- the texts of programs
 
--- the refusal of a text for its fault; want of memory refuses no text
+-- the refusal of a text for its fault; lack of memory refuses no text
 abbrev pub reason_of_text : TextFault → Option Reason
 reason_of_text OutOfMemory = None
 reason_of_text fault = Some (Text fault)

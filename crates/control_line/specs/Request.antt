@@ -1,4 +1,4 @@
--- What a control line asks for (docs/COMMANDS.md, "Control lines").
+-- The requests of control lines (docs/COMMANDS.md, "Control lines").
 use Rattle.std.specs.Prelude.{◌≡◌, ◌<◌, ◌^◌, ◌∷◌, ◌++◌, List, [], codes, decimal, ℕ}
 use Rattle.ipv4_fields.specs.Endpoint.{IsEndpoint, endpoint_text}
 use Rattle.member_group.specs.declared.command.Command.{Command}

@@ -19,14 +19,14 @@ use member_group::Config;
 use read_section::Operator;
 use std::alloc::Global;
 
-/// Why nothing came of a block: the line's number, from 1, if it is a line's fault.
+/// Why a block failed: the line's number, from 1, if a line is at fault, and the fault.
 #[derive(Drop)]
 pub(crate) struct BlockFault {
     pub(crate) line: u32,
     pub(crate) fault: LineFault,
 }
 
-// The next of lines that each stand after an LF, and the rest.
+// The next of lines that each come after an LF, and the rest.
 fn next_line(text: &[u8]) -> Option<(&[u8], &[u8])>
     requires { EndsLine text.now }
     ensures { MatchOption result (text.now ≡ []) (λ parts. IsNextLine text.now parts.0.now parts.1.now) }
@@ -37,7 +37,7 @@ fn next_line(text: &[u8]) -> Option<(&[u8], &[u8])>
     Some(cut_line(&text[1..]))
 }
 
-/// Counts lines that each stand after an LF.
+/// Counts lines that each come after an LF.
 pub(crate) fn count_lines(text: &[u8]) -> usize
     requires { EndsLine text.now }
     ensures { (lines : List (List ℕ)) × AreLines text.now lines × (result ≡ length lines) }
@@ -69,7 +69,7 @@ fn do_numbered(
     }
 }
 
-// What the lines make of a configuration, one after the other.
+// Applies the lines to a configuration, one after the other.
 fn config_of_lines(alloc: Global, start: Config, text: &[u8]) -> Result<Config, BlockFault>
     requires ends_line { EndsLine text.now }
     requires few { length text.now ≤ BLOCK_LIMIT }
@@ -99,7 +99,7 @@ fn current_copy(operator: &Operator) -> Result<Config, BlockFault>
     }
 }
 
-// What the lines make of the configuration that a block changes.
+// Applies the lines to the configuration that a block changes.
 fn config_of_block(
     alloc: Global,
     start: Start,
@@ -140,7 +140,7 @@ fn is_other(version: Option<u64>, current: u64) -> bool
     }
 }
 
-/// Answers a block, whose first line is read, and does what it asks for. All memory is taken before the publication.
+/// Executes a block, whose first line is read, and returns its reply. Takes all memory before the publication.
 pub(crate) fn answer_block(
     alloc: Global,
     head: Head,

@@ -27,7 +27,7 @@ fn next_config(config: &Config, command: &Command) -> Result<Config, LineFault>
     }
 }
 
-/// The configuration after a change.
+/// Makes the configuration after a change.
 pub(crate) fn changed(
     alloc: Global,
     config: &Config,
@@ -63,7 +63,7 @@ fn do_change(
     do_command(config, &made)
 }
 
-/// Changes a configuration as one of several lines asks, which has to ask for a change.
+/// Changes a configuration as one of several lines asks, which must ask for a change.
 pub(crate) fn do_line(alloc: Global, config: &mut Config, line: &[u8]) -> Result<(), LineFault>
     ensures { MatchResult result (λ _. IsDone config.old line.now config.new) (IsLineFault config.old line.now) }
 {
@@ -76,7 +76,7 @@ pub(crate) fn do_line(alloc: Global, config: &mut Config, line: &[u8]) -> Result
     }
 }
 
-/// Publishes a configuration. It takes no memory.
+/// Publishes a configuration. Takes no memory.
 pub(crate) fn publish_next(next: Config, operator: &mut Operator) -> LineAnswer
     ensures published { IsPublication next operator.old operator.new result }
     ensures short { IsShort result }
@@ -87,7 +87,7 @@ pub(crate) fn publish_next(next: Config, operator: &mut Operator) -> LineAnswer
     }
 }
 
-/// Makes the configuration after a change, and publishes it. All memory is taken before.
+/// Makes the configuration after a change, and publishes it. Takes all memory before the publication.
 pub(crate) fn publish_change(
     alloc: Global,
     command: Command<ProgramText<'_>>,

@@ -1,4 +1,4 @@
-//! Where a line is at fault, for people (docs/COMMANDS.md, "Rules files").
+//! The column of a line's fault, for people (docs/COMMANDS.md, "Rules files").
 
 ghost use Rattle.std.specs.Prelude.{◌≡◌, ◌+◌, ◌≤◌, List, MatchOption, length, option_map, ℕ};
 ghost use Rattle.control_line.specs.Answer.{program_in};
@@ -77,10 +77,11 @@ fn place_in(text: &[u8], reason: Reason) -> usize
     }
 }
 
-/// The column for people: the byte of a line, from 1, for which it is refused. One past the line's end if something is missing there.
+/// Returns the column for people: the byte of a line, from 1, for which the line is refused. The column is one past the line's end if
+/// something is missing there.
 ///
-/// For a fault of an expression it is the place of the fault; for one of assembly text the first byte of the line of that text. For
-/// other refusals it is the first byte of the program's text if the line has one, else 1.
+/// For a fault of an expression, the column is the place of the fault. For a fault of assembly text, it is the first byte of the line
+/// of that text. For other refusals, it is the first byte of the program's text if the line has one, else 1.
 pub fn fault_column(line: &[u8], reason: Reason) -> usize
     ensures of_text { (text : List ℕ) → HasProgramText line.now text → result ≡ column_in line.now text reason }
     ensures of_no_text { ((text : List ℕ) → HasProgramText line.now text → ⊥) → result ≡ 1 }

@@ -29,7 +29,7 @@ fn judged(version: u64, groups: &[Group<Global>], packet: &[u8]) -> LineAnswer
     }
 }
 
-// Judges the packet that pairs of digits write. It is written into the buffer first.
+// Judges the packet that pairs of digits spell. The packet is written into the buffer first.
 fn judge_pairs(
     version: u64,
     groups: &[Group<Global>],
@@ -52,7 +52,7 @@ fn are_digits(text: &[u8]) -> bool
     text.iter().all(|byte| is_digit(*byte))
 }
 
-/// Judges the packet that digits write, by the groups of a configuration at its version. Takes no memory.
+/// Judges the packet that digits spell, by the groups of a configuration at its version. Takes no memory.
 // Not inlined, so that other lines do not pay for the buffer on the stack.
 /// The reason: docs/INTERNALS.md, "The line `judge`".
 #[inline(never)]

@@ -1,7 +1,7 @@
 //! Control requests, one reply each (docs/COMMANDS.md, "Control lines").
 //!
-//! A request is a line, or a block: several lines as one change. It changes the configuration and publishes the next version of it,
-//! or reads the current one, or sweeps. Its text is read, its programs are made and all memory is taken before the operator does
+//! A request is a line, or a block: several lines as one change. A request changes the configuration and publishes its next version,
+//! or reads the current one, or sweeps. The text is read, the programs are made and all memory is taken before the operator does
 //! anything.
 //!
 //! `Reason` is why a line is refused, or a command of the program (docs/COMMANDS.md, "Refusals").
@@ -50,7 +50,7 @@ use retire::Retire;
 pub use rules_file::{RulesFault, is_skipped, line_at, rules, without_return};
 use std::alloc::{AllocError, Global};
 
-/// The answer of a call that was refused memory.
+/// The error of a call that was refused memory.
 pub use std::alloc::AllocError as OutOfMemory;
 
 /// The most bytes of a control line.
@@ -90,7 +90,7 @@ fn part_read(operator: &Operator, reading: Reading<'_>) -> LineAnswer
     read_back(operator.number(), operator.config().groups(), reading)
 }
 
-// Answers a change for one version only, without its front `at V `.
+// Executes a change for one version only, without its front `at V `.
 fn answer_at(
     alloc: Global,
     version: u64,
@@ -111,7 +111,7 @@ fn answer_at(
     publish_change(alloc, command, operator)
 }
 
-// Answers a request that is no block.
+// Executes a request that is no block.
 fn answer_line(alloc: Global, text: &[u8], operator: &mut Operator) -> Result<LineAnswer, LineFault>
     requires { HasNoHead text.now }
     ensures answered { IsOutcome (IsAnswered text.now) operator.old operator.new result }
@@ -144,7 +144,8 @@ fn answer(alloc: Global, text: &[u8], operator: &mut Operator) -> Result<LineAns
     }
 }
 
-/// Answers a control request, and does what it asks for: a line, or the first line of a block with its lines, each after an LF.
+/// Executes a control request, and returns its reply. A request is a line, or the first line of a block with its lines, each after an
+/// LF.
 ///
 /// A request that is too long is refused first, then one of bad form, then one for another version. Then come the lines: the text
 /// of a program, then the command. The publication is last. A refusal publishes nothing, and does nothing but the scans of a
@@ -178,8 +179,8 @@ pub fn one_request()
     ensures text { IsOneMessage }
 {}
 
-/// Law: a line that does not read has one answer, but for whether a publication is busy and for what a sweep reclaims. With a
-/// compiler that makes the same words of an expression each time, so has every line. It runs nothing.
+/// Law: a line that does not read has one reply, except for whether a publication is busy and for what a sweep reclaims. With a
+/// compiler that makes the same words of an expression each time, every line has one reply. It runs nothing.
 pub fn one_reply()
     ensures texts { HasOneAnswer }
     ensures compiled { HasOneAnswerBy }

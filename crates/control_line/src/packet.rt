@@ -12,10 +12,10 @@ use bpf_machine::MAX_PACKET;
 use std::alloc::Global;
 use std::simd::prelude::*;
 
-// What a byte is worth that is no digit.
+// The worth of a byte that is no digit.
 const NO_DIGIT: u8 = 16;
 
-// What each byte is worth as a digit, of either case.
+// The worth of each byte as a digit, of either case.
 static DIGITS: [u8; 256] = [
     16, 16, 16, 16, 16, 16, 16, 16, 16, 16, 16, 16, 16, 16, 16, 16, 16, 16, 16, 16, 16, 16, 16, 16,
     16, 16, 16, 16, 16, 16, 16, 16, 16, 16, 16, 16, 16, 16, 16, 16, 16, 16, 16, 16, 16, 16, 16, 16,
@@ -36,7 +36,7 @@ fn worth_of(byte: u8) -> u8
     DIGITS[byte as usize]
 }
 
-/// Tells whether a byte is a digit, of either case.
+/// Tests whether a byte is a digit, of either case.
 pub(crate) fn is_digit(byte: u8) -> bool
     ensures { result ≡ is_hex_digit byte }
 {
@@ -46,7 +46,7 @@ pub(crate) fn is_digit(byte: u8) -> bool
 // How many bytes of a packet are made at once, each of two digits: the lanes of a vector.
 const BLOCK: usize = 16;
 
-// What each of these bytes is worth as a digit.
+// The worth of each of these bytes as a digit.
 #[inline(always)]
 fn worths_of(bytes: u8x16) -> u8x16
     ensures { result ≡ map digit_worth bytes }
@@ -60,7 +60,7 @@ fn worths_of(bytes: u8x16) -> u8x16
     number.simd_lt(u8x16::splat(10)).select(number, other)
 }
 
-// Writes a block of bytes, from this place on, and tells whether all of their digits were good.
+// Writes a block of bytes, from this place on, and returns whether all of their digits were good.
 // The reason: docs/INTERNALS.md, "Hexadecimal digits in blocks".
 #[inline(always)]
 fn read_block(digits: &[u8], packet: &mut [u8], at: usize) -> bool
@@ -93,8 +93,8 @@ fn read_blocks(digits: &[u8], packet: &mut [u8]) -> bool
     true
 }
 
-// Writes the bytes from this place on, one by one. It has no branch at a digit: the bits of what each is worth are collected, and
-// looked at once, behind the last.
+// Writes the bytes from this place on, one by one. There is no branch at a digit: the bits of the digits' worths are collected, and
+// tested once, after the last digit.
 fn read_rest(digits: &[u8], packet: &mut [u8], from: usize) -> bool
     requires pairs { length digits.now ≡ 2 * length packet.old }
     requires read { ArePairs digits.now packet.old from }
@@ -111,8 +111,8 @@ fn read_rest(digits: &[u8], packet: &mut [u8], from: usize) -> bool
     bits < NO_DIGIT
 }
 
-// Writes the bytes behind the whole blocks. Where there are enough bytes the last ones are read as a block, whose front was written
-// before. Nothing is left to read then: the last call only tells that the packet is whole.
+// Writes the bytes after the whole blocks. If there are enough bytes, reads the last ones as a block whose front was written before.
+// Then nothing is left to read, and the last call only shows that the packet is whole.
 fn read_tail(digits: &[u8], packet: &mut [u8]) -> bool
     requires pairs { length digits.now ≡ 2 * length packet.old }
     requires read { ArePairs digits.now packet.old (length packet.old / BLOCK * BLOCK) }
@@ -127,7 +127,7 @@ fn read_tail(digits: &[u8], packet: &mut [u8]) -> bool
     read_block(digits, packet, len - BLOCK) && read_rest(digits, packet, len)
 }
 
-// Writes the bytes of pairs of digits, and tells whether all were digits.
+// Writes the bytes of pairs of digits, and returns whether all were digits.
 pub(crate) fn read_pairs(digits: &[u8], packet: &mut [u8]) -> bool
     requires { length digits.now ≡ 2 * length packet.old }
     ensures packet { IsTrue result → decode_of digits.now ≡ Ok packet.new }
@@ -136,9 +136,9 @@ pub(crate) fn read_pairs(digits: &[u8], packet: &mut [u8]) -> bool
     read_blocks(digits, packet) && read_tail(digits, packet)
 }
 
-/// Reads the packet that the digits write, two a byte, of either case, into a buffer that is used again: no more memory is taken
-/// than it lacks. The outer `Err` is want of memory. The inner one is `BadForm` where there is an odd number of characters or one is
-/// no digit, else `PacketTooLong` where there are more than 65,535 bytes. What the buffer holds after either is not promised.
+/// Reads the packet that the digits spell, two for each byte, of either case, into a buffer that is used again: takes only the memory
+/// that the buffer lacks. The outer `Err` is lack of memory. The inner one is `BadForm` if the number of characters is odd or one is no
+/// digit, else `PacketTooLong` if there are more than 65,535 bytes. The contents of the buffer after either are not promised.
 pub fn read_packet(digits: &[u8], packet: &mut Vec<u8>) -> Result<Result<(), Reason>, OutOfMemory>
     ensures packet { IfOk result (λ read. MatchResult read
         (λ done. SpellsPacket digits.now packet.new.items)
@@ -161,8 +161,8 @@ pub fn read_packet(digits: &[u8], packet: &mut Vec<u8>) -> Result<Result<(), Rea
     Ok(Ok(()))
 }
 
-/// The packet that the digits write, two a byte, of either case. The outer `Err` is want of memory. The inner one is `BadForm` where
-/// there is an odd number of characters or one is no digit, else `PacketTooLong` where there are more than 65,535 bytes.
+/// Reads the packet that the digits spell, two for each byte, of either case. The outer `Err` is lack of memory. The inner one is
+/// `BadForm` if the number of characters is odd or one is no digit, else `PacketTooLong` if there are more than 65,535 bytes.
 pub fn packet_of_hex(alloc: Global, digits: &[u8]) -> Result<Result<Vec<u8>, Reason>, OutOfMemory>
     ensures packet { IfOk result (λ read. MatchResult read
         (λ packet. SpellsPacket digits.now packet.items)

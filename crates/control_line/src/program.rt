@@ -13,7 +13,7 @@ use filter_program::{TextFault, assembled, compiled};
 use member_group::Command;
 use std::alloc::Global;
 
-/// Why nothing came of a line.
+/// Why a line was not done.
 #[derive(Drop)]
 pub(crate) enum LineFault {
     Refused(Reason),

@@ -17,7 +17,7 @@ use member_group::{Group, Member, Refusal};
 use packet_verdict::group_by_key;
 use std::alloc::Global;
 
-/// What a line reads back.
+/// A line that reads the configuration back.
 #[derive(Clone, Copy)]
 pub(crate) enum Reading<'a> {
     /// The group at a place, in rising order of key.
@@ -40,7 +40,7 @@ pub(crate) enum Reading<'a> {
         member: u32,
         place: u32,
     },
-    /// The verdict on the packet that digits write.
+    /// The verdict on the packet that digits spell.
     Judge {
         digits: &'a [u8],
     },
@@ -169,7 +169,7 @@ fn read_filter(
     words_from(version, member.filter.as_ref(), place)
 }
 
-/// What a line reads of the groups of a configuration, at its version.
+/// Reads the groups of a configuration, at its version, as a line asks.
 pub(crate) fn read_back(version: u64, groups: &[Group<Global>], reading: Reading<'_>) -> LineAnswer
     ensures { result ≡ reading_answer (λ program. program.words) version groups.now (reading_of reading.entry) }
 {

@@ -12,7 +12,7 @@ use std::fmt;
 /// Why a control line or a command is refused. `line` and the commands never refuse for lack of memory (A6, P6, F3, G8).
 #[derive(Clone, Copy, Debug, PartialEq, Eq)]
 pub enum Reason {
-    /// C1: the text is none that was asked for. A control line is none of the table, or digits write no bytes.
+    /// C1: the text is malformed. A control line is not in the table, or digits spell no bytes.
     BadForm,
     /// C2: the line has more than `LINE_LIMIT` bytes.
     LineTooLong,
@@ -29,7 +29,7 @@ pub enum Reason {
 }
 
 impl Reason {
-    /// The refusal for which no program is made of a text. Want of memory is none.
+    /// Returns the refusal of a text that makes no program, or `None` for lack of memory.
     pub fn of_text(fault: TextFault) -> Option<Reason>
         ensures { result ≡ reason_of_text fault }
     {
@@ -39,7 +39,7 @@ impl Reason {
         }
     }
 
-    /// The code.
+    /// Returns the code.
     pub fn code(self) -> Code
         ensures { result ≡ reason_code self }
     {

@@ -22,7 +22,7 @@ pub const NUMBER_LIMIT: usize = 20;
 /// How many words a line reads at most.
 pub const WINDOW: usize = 5;
 
-/// What a line is answered.
+/// The reply to a line, as a value.
 #[derive(Clone, Copy, Debug, PartialEq, Eq)]
 pub enum LineAnswer {
     /// Nothing was changed.
@@ -52,7 +52,7 @@ pub enum LineAnswer {
         members: usize,
         selector: usize,
     },
-    /// A member: its index in the group, its number, where its packets are sent, how many instructions its filter has, and whether
+    /// A member: its index in the group, its number, the destination of its packets, how many instructions its filter has, and whether
     /// it is locked.
     MemberRead {
         version: u64,
@@ -129,7 +129,7 @@ fn digit_count(number: u64) -> usize
 }
 
 impl Reply {
-    /// Lends the line.
+    /// Returns the line.
     pub fn bytes(&self) -> &[u8]
         ensures line { result.now ≡ self.now }
         ensures short { length result.now ≤ REPLY_LIMIT }

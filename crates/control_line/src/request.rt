@@ -1,4 +1,4 @@
-//! What a control line asks for, read from its text (docs/COMMANDS.md, "Control lines").
+//! The request of a control line, read from its text (docs/COMMANDS.md, "Control lines").
 
 ghost use Rattle.std.specs.Prelude.{◌≡◌, ◌≢◌, ◌<◌, ◌^◌, ◌++◌, ◌∷◌, ◌↔◌, IsTrue, List, MatchOption, None, Option, codes, decimal, option_map, ℕ};
 ghost use Rattle.ipv4_fields.specs.Endpoint.{IsEndpoint, endpoint_text};
@@ -18,7 +18,7 @@ pub(crate) enum ProgramText<'a> {
     Expression(&'a [u8]),
 }
 
-/// What a line asks for.
+/// The request of a line.
 #[derive(Drop)]
 pub(crate) enum Request<'a> {
     /// A change of the configuration, to be published.
@@ -31,14 +31,14 @@ pub(crate) enum Request<'a> {
     Sweep,
 }
 
-/// Tells whether a text, or a field of it, is this word.
+/// Tests whether a text, or a field of it, is this word.
 pub fn is_word(field: &[u8], word: &str) -> bool
     ensures { IsTrue result ↔ (field.now ≡ word.now) }
 {
     field == word.as_bytes()
 }
 
-// The program behind the other fields, or the word for none.
+// The program after the other fields, or the word for none.
 fn read_program(fields: &[u8]) -> Option<Option<ProgramText<'_>>>
     ensures { MatchOption result
         ((program : Option Source) → fields.now ≢ spaced (program_fields program))
@@ -106,7 +106,7 @@ fn read_number_line<'a>(
     None
 }
 
-// A line that names a member, behind its first two fields.
+// A line that names a member, after its first two fields.
 fn read_member_line<'a>(
     word: &'a [u8],
     key: Endpoint,
@@ -218,7 +218,7 @@ fn read_word(line: &[u8]) -> Option<Request<'_>>
     None
 }
 
-/// Reads what a line asks for, or nothing where it is no line of docs/COMMANDS.md, "Control lines".
+/// Reads the request of a line. Returns `None` if it is no line of docs/COMMANDS.md, "Control lines".
 pub(crate) fn read_request(line: &[u8]) -> Option<Request<'_>>
     ensures { IsRead line.now result }
 {

@@ -43,7 +43,7 @@ pub fn is_skipped(line: &[u8]) -> bool
     true
 }
 
-/// The line without the CR at its end, if there is one.
+/// Returns the line without the CR at its end, if there is one.
 #[tactic(auto, using(crate::proofs::RulesLemmas::return_is_cut, crate::proofs::RulesLemmas::other_is_kept))]
 pub fn without_return(line: &[u8]) -> &[u8]
     ensures { result.now ≡ without_return line.now }
@@ -68,7 +68,7 @@ fn next_line(text: &[u8]) -> Option<(&[u8], &[u8])>
     }
 }
 
-/// The line of a text with this number, from 1, without its LF and without the CR at its end. Empty if there is none.
+/// Returns the line of a text with this number, from 1, without its LF and without the CR at its end. It is empty if there is none.
 pub fn line_at(text: &[u8], number: u32) -> &[u8]
     ensures { result.now ≡ without_return (line_numbered number (lines_in text.now)) }
 {
@@ -123,7 +123,7 @@ fn do_rule(alloc: Global, config: &mut Config, line: &[u8], number: u32) -> Resu
     }
 }
 
-// What the lines of a file make, one after the other, whatever their charge.
+// Applies the lines of a file, one after the other, whatever their charge.
 #[tactic(auto, using(crate::proofs::RulesLemmas::none_done))]
 fn config_of_rules(alloc: Global, text: &[u8]) -> Result<Config, RulesFault>
     requires { length text.now ≤ BLOCK_LIMIT }
@@ -146,7 +146,7 @@ fn is_short(text: &[u8]) -> bool
     text.len() <= BLOCK_LIMIT && count_rules(text) <= MOST_LINES as usize
 }
 
-/// The configuration that a rules file makes, beginning without groups.
+/// Makes the configuration of a rules file, beginning without groups.
 ///
 /// A file that is too long, or has too many lines that are not skipped, is refused first. Then come the lines in their order, and
 /// the charge of the configuration last. The text may be any bytes.

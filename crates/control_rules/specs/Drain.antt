@@ -41,7 +41,7 @@ pub record AreDraining (group : GroupOf (List ℕ)) (index : ℕ) (key : Endpoin
   pub can_drain : CanDrain (length group.members) index buckets.members
   pub commands_are : commands ≡ SetSelector key (selector_words by (without_member (length group.members) index buckets)) ∷ Leave key id ∷ []
 
--- the selector of the group is none that `spread` makes for its members, or there is no other member
+-- the selector of the group is not one that `spread` makes for its members, or there is no other member
 pub data IsNotSpread (group : GroupOf (List ℕ)) (index : ℕ) : Type 0 where
   no_selector : group.selector ≡ None → IsNotSpread group index
   other_program : (words : List ℕ) → group.selector ≡ Some words → ((by : HashBy) (buckets : BucketsValue) → IsSelectorOf words by buckets → ⊥) → IsNotSpread group index

@@ -1,4 +1,4 @@
--- What replies say of the configurations of a switch. Each reply shows the configuration of one version (docs/COMMANDS.md, "rules").
+-- The configurations of a switch, by its replies. Each reply shows the configuration of one version (docs/COMMANDS.md, "rules").
 use Rattle.std.specs.Prelude.{◌≡◌, ◌≤◌, ◌⊎◌, List, Option, codes, length, ℕ}
 use Rattle.std.specs.List.{All}
 use Rattle.config_image.specs.Image.{Group}
@@ -32,7 +32,7 @@ pub record IsTrueTo (history : History) (one : Exchange) : Type 0 where
       × (one.reply ≡ reply_text (reading_answer (λ program. program.words) version (history version) reading))
   pub shows : one.line ≡ codes "show" → (version : ℕ) × (version ≤ LAST_NUMBER) × (one.reply ≡ reply_text (measures version (history version)))
 
--- what a contract sees of a client: the switch that it asks, and what happened on its wire
+-- a client as contracts see it: the switch that it asks, and what happened on its wire
 pub record ClientValue : Type 0 where
   pub switch : Peer
   pub log : Option (List Event)
@@ -41,7 +41,7 @@ pub record ClientValue : Type 0 where
 abbrev pub IsReadLine : List ℕ → Type 0
 IsReadLine line = (line ≡ codes "show") ⊎ ((reading : Reading) × Spells line (read reading))
 
--- lines that change nothing were exchanged, and no others, and this holds for each history that all of their replies are true to
+-- lines that change nothing were exchanged, and no others, and this is true for each history that all of their replies are true to
 pub record Learns (before after : ClientValue) (Holds : History → Type 0) : Type 0 where
   pub told : List Exchange
   pub events : List Event

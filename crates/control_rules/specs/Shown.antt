@@ -1,4 +1,4 @@
--- What a reply shows of a configuration.
+-- The part of a configuration that a reply shows.
 use Rattle.std.specs.Prelude.{◌≡◌, ◌≤◌, ◌∷◌, List, None, Option, Some, [], codes, decimal, drop, length, option_and_then, slice_get, take, ℕ}
 use Rattle.ipv4_fields.specs.declared.endpoint.Endpoint.{Endpoint}
 use Rattle.bpf_verify.specs.Program.{ProgramValue}

@@ -1,4 +1,4 @@
-//! Lines that read, sent to a switch, and what their replies show. None if a reply shows nothing, as a refusal.
+//! Lines that read, sent to a switch, and what their replies show. A result is `None` if a reply shows nothing, such as a refusal.
 
 ghost use Rattle.std.specs.Prelude.{◌≡◌, ◌≤◌, ◌<◌, ◌++◌, ◌^◌, IfOk, IfSome, codes, length, take};
 ghost use Rattle.ipv4_fields.specs.Endpoint.{IsEndpoint};

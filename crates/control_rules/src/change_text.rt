@@ -107,7 +107,7 @@ pub(crate) fn push_change<B: Allocator>(
     text.extend_from_slice(b"\n".as_slice())
 }
 
-/// The lines of commands, each with its LF.
+/// Returns the lines of commands, each with its LF.
 pub fn changes_text<B: Allocator>(
     alloc: Global,
     commands: &[Command<&Program<B>>],

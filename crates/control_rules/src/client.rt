@@ -39,7 +39,7 @@ impl<D: Wire + Drop> Client<D> {
         })
     }
 
-    /// The allocator that replies are kept in.
+    /// Returns the allocator that replies are kept in.
     pub fn allocator(&self) -> Global {
         self.alloc
     }

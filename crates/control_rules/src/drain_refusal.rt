@@ -11,12 +11,12 @@ use member_group::Refusal;
 pub enum DrainRefusal {
     /// G1 or G3: there is no such group or member, so `leave` is refused.
     Unknown(Refusal),
-    /// H1: the selector of the group is none that `spread` makes for its members, or the group has no other member.
+    /// H1: the selector of the group is not one that `spread` makes for its members, or the group has no other member.
     NotSpread,
 }
 
 impl DrainRefusal {
-    /// The code.
+    /// Returns the code.
     pub fn code(self) -> Code
         ensures { result ≡ drain_code self }
     {

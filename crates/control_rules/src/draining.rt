@@ -35,7 +35,7 @@ pub enum Drained {
 #[derive(Drop)]
 enum DrainAttempt {
     Ended(Drained),
-    // The version is another one, a publication is busy, or the reply is none to a change: what was done, the rules show.
+    // The version is another one, a publication is busy, or the reply is not one to a change. The rules show what was done.
     Again { busy: bool },
 }
 
@@ -81,10 +81,10 @@ fn try_drain<D: Wire + Drop>(
     Ok(attempt_of(read_reply(reply)))
 }
 
-/// Takes the member of a number out of a group whose selector `spread` made, as one version: the other members take its buckets, and it
-/// leaves.
+/// Takes the member of a number out of a group whose selector `spread` made, as one version: the other members take its buckets, and
+/// it leaves.
 ///
-/// If the switch has another version meanwhile, or is busy, it begins again with reading, at most `AGAIN` times.
+/// If the switch has another version meanwhile, or is busy, the call begins again with reading, at most `AGAIN` times.
 pub fn drain<R: Clock, D: Wire + Drop>(
     clock: &R,
     client: &mut Client<D>,

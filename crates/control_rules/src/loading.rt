@@ -37,7 +37,7 @@ pub enum Loaded {
 #[derive(Drop)]
 pub(crate) enum Attempt {
     Ended(Loaded),
-    // The version is another one, a publication is busy, or the reply is none to a change: what was done, the rules show.
+    // The version is another one, a publication is busy, or the reply is not one to a change. The rules show what was done.
     Again { busy: bool },
 }
 
@@ -51,7 +51,7 @@ pub(crate) struct Running {
 // How long a busy publication is waited for, in milliseconds.
 const PAUSE: u64 = 10;
 
-// What a switch replies if a publication is busy, and how its reply begins if the version is another one.
+// The reply of a switch if a publication is busy, and the beginning of its reply if the version is another one.
 const BUSY: &[u8] = b"refused B2";
 
 const OUTDATED: &[u8] = b"refused M1 ";
@@ -78,8 +78,8 @@ pub(crate) fn read_running<D: Wire + Drop>(
     }
 }
 
-/// The lines that lead from the rules of a switch to those of a configuration, each with LF. None if the rules changed each time that
-/// they were read. Nothing is changed.
+/// Returns the lines that lead from the rules of a switch to those of a configuration, each with LF. Returns `None` if the rules changed
+/// each time that they were read. Changes nothing.
 pub fn differences<D: Wire + Drop>(
     client: &mut Client<D>,
     config: &Config,
@@ -156,7 +156,7 @@ pub(crate) fn pause<R: Clock>(clock: &R, busy: bool) {
 /// Replaces the rules of a switch by those of a rules file, which makes this configuration, as one version. If they are the same, only
 /// lines that read are sent.
 ///
-/// If the switch has another version meanwhile, or is busy, it begins again with reading, at most `AGAIN` times.
+/// If the switch has another version meanwhile, or is busy, the call begins again with reading, at most `AGAIN` times.
 pub fn load<R: Clock, D: Wire + Drop>(
     clock: &R,
     client: &mut Client<D>,

@@ -18,7 +18,7 @@ use member_group::{Command, Config, Group, Member, Refusal};
 use selector_buckets::{can_drain, drained, selector, table_of_program};
 use std::alloc::Global;
 
-/// What is to be done for a member that is to be drained.
+/// The plan for a member that should be drained.
 #[derive(Drop)]
 pub(crate) enum Plan {
     /// These lines are sent.

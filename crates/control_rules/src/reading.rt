@@ -41,7 +41,8 @@ fn finished(words: Vec<u64>, count: u32) -> Option<Vec<u64>>
     }
 }
 
-// The words of a group's selector, or of a member's filter, at a version. None if a reply is of another version, or shows no words.
+// The words of a group's selector, or of a member's filter, at a version. Returns `None` if a reply is of another version, or shows
+// no words.
 fn read_program_words<D: Wire + Drop>(
     client: &mut Client<D>,
     version: u64,
@@ -89,7 +90,7 @@ fn read_program<D: Wire + Drop>(
     }
 }
 
-// Appends the line of a group's selector, if it has one. False if a reply is of another version, or shows no words.
+// Appends the line of a group's selector, if it has one. Returns false if a reply is of another version, or shows no words.
 fn push_selector<D: Wire + Drop>(
     client: &mut Client<D>,
     version: u64,
@@ -291,8 +292,8 @@ fn read_once<D: Wire + Drop>(client: &mut Client<D>) -> Result<Option<RulesRead>
     Ok(Some(RulesRead { version, text }))
 }
 
-/// Reads the rules of a switch. If a reply is of another version, or shows nothing, it begins again, at most `AGAIN` times. None if
-/// it never came to the end.
+/// Reads the rules of a switch. If a reply is of another version, or shows nothing, begins again, at most `AGAIN` times. Returns `None`
+/// if no attempt came to the end.
 pub fn read_rules<D: Wire + Drop>(client: &mut Client<D>) -> Result<Option<RulesRead>, Failure>
     ensures read { IfOk result (λ answer. Learns client.old client.new (λ history.
         IfSome answer (λ rules. rules.text.items ≡ rules_file rules.version (history rules.version)))) }

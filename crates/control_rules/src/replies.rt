@@ -56,7 +56,7 @@ pub(crate) struct WordsShown {
     pub(crate) words: Vec<u64>,
 }
 
-/// Reads a reply to `show`. None if it has another form.
+/// Reads a reply to `show`. Returns `None` if it has another form.
 pub fn read_shown(reply: &[u8]) -> Option<Shown>
     ensures { IfSome result (IsShownReply reply.now) }
 {
@@ -132,7 +132,7 @@ pub(crate) fn read_member(reply: &[u8]) -> Option<MemberShown>
     })
 }
 
-// Appends the words that are left. False if a field is no word, or if there are more words than one reply has.
+// Appends the words that are left. Returns false if a field is no word, or if there are more words than one reply has.
 fn push_words(fields: &mut Fields<'_>, words: &mut Vec<u64>) -> Result<bool, OutOfMemory>
     ensures { IfOk result (λ done. IsTrue done → (more : List _) × AllZip SpellsDigits fields.old more × (words.new.items ≡ words.old.items ++ more)) }
 {

@@ -1,4 +1,4 @@
--- Of which kind a reply is: the verdict on a packet, or the code of a refusal (docs/COMMANDS.md, "replay" and "Refusals").
+-- The kind of a reply: the verdict on a packet, or the code of a refusal (docs/COMMANDS.md, "replay" and "Refusals").
 use Rattle.std.specs.Prelude.{if◌then◌else◌, ◌++◌, ◌∷◌, List, None, Option, Some, [], codes, ℕ}
 use Rattle.std.specs.Option.{option_or}
 use Rattle.std.specs.Str.{bytes_eq}
@@ -14,7 +14,7 @@ unfoldable pub refusal_in : List (List ℕ) → Option (List ℕ)
 refusal_in [] = None
 refusal_in (first ∷ behind) = if bytes_eq first (codes "refused") then first_two (first ∷ behind) else None
 
--- `refused` and the code that a reply tells, or `None`
+-- `refused` and the code in a reply, or `None`
 abbrev pub refusal_of : List ℕ → Option (List ℕ)
 refusal_of reply = refusal_in (words_of reply)
 

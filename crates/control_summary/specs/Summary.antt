@@ -12,12 +12,12 @@ pub record RowValue : Type 0 where
   pub kind : List ℕ
   pub count : ℕ
 
--- a byte of the first line, where there is one; else it is in no line
+-- a byte of the first line, if there is one; else it is in no line
 abbrev pub grow_line : ℕ → List (List ℕ) → List (List ℕ)
 grow_line byte [] = []
 grow_line byte (line ∷ rest) = (byte ∷ line) ∷ rest
 
--- the lines of a text: LF, which is 10, ends each; what stands behind the last LF is none
+-- the lines of a text: LF, which is 10, ends each; the text after the last LF is none
 unfoldable pub lines_of : List ℕ → List (List ℕ)
 lines_of [] = []
 lines_of (byte ∷ rest) = if byte == 10 then [] ∷ lines_of rest else grow_line byte (lines_of rest)
@@ -30,7 +30,7 @@ kinds_in text = filter_map reply_kind (lines_of text)
 abbrev pub times_among : List (List ℕ) → List ℕ → ℕ
 times_among kinds kind = min (count_by (bytes_eq kind) kinds) (2 ^ 64 - 1)
 
--- a row is of a kind that is among them, and tells how often it is
+-- a row is of a kind that is among them, and says how often it is
 pub record IsRow (kinds : List (List ℕ)) (row : RowValue) : Type 0 where
   pub told : Contains kinds row.kind
   pub counted : row.count ≡ times_among kinds row.kind

@@ -1,4 +1,4 @@
--- Which verdict a reply tells (docs/COMMANDS.md, "replay").
+-- The verdict in a reply (docs/COMMANDS.md, "replay").
 use Rattle.std.specs.Prelude.{◌==◌, if◌then◌else◌, ◌++◌, ◌∷◌, Bool, List, None, Option, Some, [], codes, ℕ}
 use Rattle.std.specs.List.{list_any}
 use Rattle.std.specs.Str.{bytes_eq}
@@ -39,6 +39,6 @@ unfoldable pub verdict_in : List (List ℕ) → Option (List ℕ)
 verdict_in (first ∷ number ∷ verdict) = if bytes_eq first (codes "version") then verdict_at verdict else None
 verdict_in _ = None
 
--- the verdict that a reply tells, or `None`
+-- the verdict in a reply, or `None`
 abbrev pub verdict_of : List ℕ → Option (List ℕ)
 verdict_of reply = verdict_in (words_of reply)

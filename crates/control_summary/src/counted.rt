@@ -1,4 +1,4 @@
-//! Counting replies by their kinds, where they come in pieces.
+//! Counting replies by their kinds, as they come in pieces.
 
 ghost use Rattle.std.specs.Prelude.{◌≡◌, ◌≤◌, ◌++◌, ◌∷◌, AllPairs, IfErr, IfOk, List, OnOk, [], length, ℕ};
 ghost use Rattle.std.specs.List.{flat_map};
@@ -32,7 +32,7 @@ fn place_of(rows: &[Row], kind: &[u8]) -> Result<usize, usize>
     Err(low)
 }
 
-// One reply more is of the kind.
+// Counts one more reply of the kind.
 fn add_reply(alloc: Global, rows: &mut Vec<Row>, kind: &[u8]) -> Result<(), AllocError>
     ensures { OnOk result ((kinds : List (List ℕ)) → AreRows kinds rows.old.items → AreRows (kinds ++ kind.now ∷ []) rows.new.items) }
 {
@@ -49,7 +49,7 @@ fn add_reply(alloc: Global, rows: &mut Vec<Row>, kind: &[u8]) -> Result<(), Allo
     Ok(())
 }
 
-/// The counts of the lines that were ended, and what was put behind these.
+/// The counts of the lines that have ended, and the bytes that were put after these.
 #[derive(Drop)]
 pub(crate) struct Counted {
     alloc: Global,
@@ -68,7 +68,7 @@ impl Counted {
         }
     }
 
-    // The line that is held ends here.
+    // Ends the line that is held, and counts it.
     fn count_held(&mut self) -> Result<(), AllocError>
         ensures { OnOk result ((text : List ℕ) → IsAt text self.old.held.items self.old.rows.items → IsAt (text ++ 10 ∷ []) self.new.held.items self.new.rows.items) }
     {
@@ -92,7 +92,7 @@ impl Counted {
         Ok(self.held.extend_from_slice(left)?)
     }
 
-    /// The rows as lines.
+    /// Returns the rows as lines.
     pub(crate) fn text(&self) -> Result<Vec<u8>, AllocError>
         ensures { IfOk result (λ text. text.items ≡ flat_map row_text self.now.rows.items) }
     {

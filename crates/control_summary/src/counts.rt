@@ -10,8 +10,8 @@ use std::marker::Model;
 
 /// The counts of the kinds of the lines of a text of replies. Contracts see the text that was put.
 ///
-/// It holds a row for each kind that occurred, and the line that is not ended. A count stays at the greatest number of 64 bits.
-/// Where memory is refused it counts no more.
+/// It has a row for each kind that occurred, and the line that has not ended. A count stays at the greatest number of 64 bits.
+/// If memory is refused, it counts no more.
 #[derive(Drop)]
 pub struct ReplyCounts {
     text: PutText,
@@ -32,7 +32,7 @@ impl Model for ReplyCounts {
 }
 
 impl ReplyCounts {
-    /// Nothing was put.
+    /// Begins with an empty text.
     pub fn new(alloc: Global) -> ReplyCounts
         ensures { result ≡ [] }
     {
@@ -53,7 +53,7 @@ impl ReplyCounts {
         }
     }
 
-    /// The summary of the replies: a line for each kind that occurred, in rising order of its bytes. What stands behind the last LF
+    /// Returns the summary of the replies: a line for each kind that occurred, in rising order of its bytes. The text after the last LF
     /// is no reply.
     pub fn summary(&self) -> Result<Vec<u8>, AllocError>
         ensures { IfOk result (λ summary. IsSummaryOf self.now summary.items) }

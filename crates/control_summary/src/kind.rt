@@ -1,4 +1,4 @@
-//! Of which kind a reply is (docs/COMMANDS.md, "replay" and "Refusals").
+//! The kind of a reply (docs/COMMANDS.md, "replay" and "Refusals").
 
 ghost use Rattle.std.specs.Prelude.{◌≡◌};
 ghost use Rattle.std.specs.Option.{option_copied};
@@ -7,7 +7,7 @@ ghost use Rattle.control_summary.specs.Kind.{reply_kind, refusal_of};
 use crate::verdict::{first_word, is_name, verdict_of};
 use ipv4_fields::split_at;
 
-/// The kind of a reply: the verdict that it tells, or `refused` and the code that it tells. `None` of another reply.
+/// Returns the kind of a reply: its verdict, or `refused` and its code. Returns `None` for another reply.
 pub fn reply_kind(reply: &[u8]) -> Option<&[u8]>
     ensures { option_copied result ≡ reply_kind reply.now }
 {
@@ -17,7 +17,7 @@ pub fn reply_kind(reply: &[u8]) -> Option<&[u8]>
     }
 }
 
-// `refused` and the code, without the number that may stand after it.
+// `refused` and the code, without the number that may follow.
 fn refusal_of(reply: &[u8]) -> Option<&[u8]>
     ensures { option_copied result ≡ refusal_of reply.now }
 {

@@ -1,4 +1,4 @@
-//! How many replies of a text tell which verdict, and how many refuse a line with which code (docs/COMMANDS.md, "replay").
+//! The number of replies in a text with each verdict, and of refusals with each code (docs/COMMANDS.md, "replay").
 //!
 //! A `ReplyCounts` takes the text in pieces, and makes its summary: a line for each of these kinds of reply, with its count.
 #![tactic(auto)]

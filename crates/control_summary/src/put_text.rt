@@ -5,7 +5,7 @@ ghost use Rattle.std.specs.Prelude.{◌≡◌, ◌++◌, []};
 use std::marker::Model;
 use std::snapshot::Snapshot;
 
-// The last byte, behind what stood before it, which contracts alone see.
+// The last byte, and the text before it, which only contracts see.
 #[derive(Drop)]
 enum Last {
     Empty,

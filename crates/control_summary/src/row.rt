@@ -25,7 +25,7 @@ impl Model for Row {
 }
 
 impl Row {
-    /// One reply is of the kind.
+    /// Makes the row of a kind with one reply.
     pub(crate) fn new(alloc: Global, kind: &[u8]) -> Result<Row, AllocError>
         ensures { IfOk result (λ row. row ≡ record { kind = kind.now; count = 1 }) }
     {
@@ -42,7 +42,7 @@ impl Row {
         self.kind.as_slice().cmp(kind)
     }
 
-    /// One reply more is of it.
+    /// Counts one more reply of the kind.
     pub(crate) fn add_one(&mut self)
         ensures { self.new ≡ record self.old { count = min (self.old.count + 1) (2 ^ 64 - 1) } }
     {

@@ -1,4 +1,4 @@
-//! The verdict that a reply tells (docs/COMMANDS.md, "replay").
+//! The verdict in a reply (docs/COMMANDS.md, "replay").
 
 ghost use Rattle.std.specs.Prelude.{◌≡◌};
 ghost use Rattle.std.specs.Option.{option_copied};
@@ -8,7 +8,7 @@ ghost use Rattle.control_summary.specs.body.Words.{BeginsWithWord};
 
 use ipv4_fields::split_at;
 
-/// The verdict that a reply tells, without the version that judged, the receiver and the bytes. `None` of another reply.
+/// Returns the verdict in a reply, without the version that judged, the receiver and the bytes. Returns `None` for another reply.
 pub fn verdict_of(reply: &[u8]) -> Option<&[u8]>
     ensures { option_copied result ≡ verdict_of reply.now }
 {

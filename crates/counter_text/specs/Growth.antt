@@ -1,4 +1,4 @@
--- By how much counts grew between two readings, and what that makes a second (docs/COMMANDS.md, "top").
+-- The growth of counts between two readings, and its rate a second (docs/COMMANDS.md, "top").
 use Rattle.std.specs.Prelude.{◌*◌, ◌+◌, ◌-◌, ◌/◌, ◌==◌, ◌&&◌, ◌||◌, ◌∷◌, Bool, List, [], if◌then◌else◌, min, nat_eq, nat_lt, ℕ}
 use Rattle.ipv4_fields.specs.declared.endpoint.Endpoint.{Endpoint}
 use Rattle.counter_text.specs.declared.counters.GroupCount.{GroupCount}

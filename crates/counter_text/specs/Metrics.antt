@@ -1,4 +1,4 @@
--- What `metrics` writes: Prometheus' text format, version 0.0.4 (docs/COMMANDS.md, "metrics").
+-- The output of `metrics`: Prometheus' text format, version 0.0.4 (docs/COMMANDS.md, "metrics").
 use Rattle.std.specs.Prelude.{◌++◌, List, None, Option, Some, [], codes, decimal, length, ℕ}
 use Rattle.std.specs.List.{flat_map}
 use Rattle.ipv4_fields.specs.Endpoint.{endpoint_text}
@@ -14,7 +14,7 @@ use Rattle.counter_text.specs.declared.metrics.GroupMetric.TheVariants as of_gro
 use Rattle.counter_text.specs.declared.metrics.MemberMetric.{MemberMetric}
 use Rattle.counter_text.specs.declared.metrics.MemberMetric.TheVariants as of_member
 
--- ---- labels: a name, and a value between quotes. No value has a byte that is to be escaped
+-- ---- labels: a name, and a value between quotes. No value has a byte that must be escaped
 
 unfoldable pub result_label : List ℕ → List ℕ
 result_label name = codes "result=\"" ++ (name ++ codes "\"")

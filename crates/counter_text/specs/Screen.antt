@@ -1,4 +1,4 @@
--- What `top` writes at each interval (docs/COMMANDS.md, "top").
+-- The output of `top` at each interval (docs/COMMANDS.md, "top").
 use Rattle.std.specs.Prelude.{◌/◌, ◌%◌, ◌-◌, ◌++◌, List, codes, decimal, length, replicate, sum_by, ℕ}
 use Rattle.std.specs.List.{filter, flat_map}
 use Rattle.ipv4_fields.specs.Endpoint.{endpoint_text}

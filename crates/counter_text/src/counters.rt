@@ -39,7 +39,7 @@ pub struct MemberCount {
     pub bytes: u64,
 }
 
-/// What one reading of a switch found.
+/// The counters found by one reading of a switch.
 #[derive(Drop)]
 pub struct Counters {
     pub version: u64,

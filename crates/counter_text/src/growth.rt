@@ -1,11 +1,11 @@
-//! By how much counts grew between two readings, and what that makes a second (docs/COMMANDS.md, "top").
+//! The growth of counts between two readings, and its rate a second (docs/COMMANDS.md, "top").
 
 ghost use Rattle.std.specs.Prelude.{◌≡◌, ◌≤◌, ◌<◌, ◌^◌};
 ghost use Rattle.counter_text.specs.Growth.{bytes_growth, group_again, group_before, group_growth, grown, member_again, member_before, member_growth, rate, share, totals_again, totals_grown};
 
 use crate::counters::{GroupCount, MemberCount, Totals};
 
-/// What became of the packets of a group or a member between two readings.
+/// The packets of a group or a member between two readings.
 #[derive(Clone, Copy)]
 pub(crate) struct Growth {
     pub(crate) packets: u128,
@@ -53,7 +53,7 @@ pub(crate) fn totals_grown(earlier: Totals, later: Totals) -> Totals
     }
 }
 
-/// The counts of the same group before. A group that was not there may have kept counts of an earlier time: it has not grown.
+/// Returns the earlier counts of the same group. A group that was not there may have counts of an earlier time, so it has not grown.
 pub(crate) fn group_before(before: &[GroupCount], later: GroupCount) -> GroupCount
     ensures { result ≡ group_before before.now later }
 {
@@ -93,7 +93,7 @@ pub(crate) fn group_growth(earlier: GroupCount, later: GroupCount) -> Growth
     }
 }
 
-/// The counts of the same member before. A member that was not there has not grown, either.
+/// Returns the earlier counts of the same member. A member that was not there has not grown, either.
 pub(crate) fn member_before(before: &[MemberCount], later: MemberCount) -> MemberCount
     ensures { result ≡ member_before before.now later }
 {
@@ -131,14 +131,14 @@ pub(crate) fn member_growth(earlier: MemberCount, later: MemberCount) -> Growth
     }
 }
 
-/// By how much the bytes of a member grew.
+/// Returns by how much the bytes of a member grew.
 pub(crate) fn bytes_growth(earlier: MemberCount, later: MemberCount) -> u64
     ensures { result ≡ bytes_growth earlier later }
 {
     grown(member_again(earlier, later), earlier.bytes, later.bytes)
 }
 
-/// A growth in so many milliseconds, a second, rounded down.
+/// Returns the rate a second of a growth in `millis` milliseconds, rounded down.
 pub(crate) fn rate(growth: u128, millis: u32) -> u128
     requires { 1000 ≤ millis }
     ensures rate { result ≡ rate growth millis }
@@ -148,7 +148,7 @@ pub(crate) fn rate(growth: u128, millis: u32) -> u128
     growth / millis * 1000 + growth % millis * 1000 / millis
 }
 
-/// A part of a whole in tenths of a percent, rounded down, and never above 100 percent.
+/// Returns a part of a whole in tenths of a percent, rounded down, and never above 100 percent.
 pub(crate) fn share(part: u128, whole: u128) -> u128
     requires { part < 2 ^ 66 }
     ensures { result ≡ share part whole }

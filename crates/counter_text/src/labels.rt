@@ -8,7 +8,7 @@ use crate::counters::MemberCount;
 use ipv4_fields::Endpoint;
 use std::alloc::{AllocError, Global};
 
-/// An endpoint as a text.
+/// Returns an endpoint as a text.
 pub(crate) fn endpoint_string(alloc: Global, endpoint: Endpoint) -> Result<String, AllocError>
     ensures { IfOk result (λ text. string_bytes text ≡ endpoint_text endpoint) }
 {

@@ -295,7 +295,7 @@ fn front_block(alloc: Global, front: Option<FrontDrops>) -> Result<String, Alloc
     Ok(text)
 }
 
-/// The counters as metrics, and with them the kernel's drops at a front, if they were asked for.
+/// Returns the counters as metrics, with the kernel's drops at a front if they were asked for.
 pub fn metrics_text(
     alloc: Global,
     counters: &Counters,

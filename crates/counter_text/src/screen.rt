@@ -229,7 +229,7 @@ fn totals_rates(grown: Totals, millis: u32) -> Totals
     }
 }
 
-/// The screen of two readings that began so many milliseconds apart.
+/// Returns the screen of two readings that began `millis` milliseconds apart.
 pub fn screen_text(
     alloc: Global,
     earlier: &Counters,

@@ -131,7 +131,7 @@ fn drop_columns<'a>(
     Ok(found)
 }
 
-// The sum of columns that are counts. None if there is none, if one is no count, or if the sum is too great.
+// The sum of columns that are counts. Returns `None` if there is none, if one is no count, or if the sum is too great.
 fn sum_of(columns: &[&[u8]]) -> Option<u64>
     ensures { MatchOption result ((n : ℕ) → AreCounts (map (λ column. column.now) columns.now) n → ⊥) (AreCounts (map (λ column. column.now) columns.now)) }
 {
@@ -151,8 +151,8 @@ fn sum_of(columns: &[&[u8]]) -> Option<u64>
     Some(sum)
 }
 
-/// How many datagrams the kernel dropped at the sockets that are bound to the front, or to 0.0.0.0 with its port, by the table. None if
-/// there is no such socket, or a line of one does not end in a number.
+/// Returns how many datagrams the kernel dropped at the sockets that are bound to the front, or to 0.0.0.0 with its port, by the table.
+/// Returns `None` if there is no such socket, if a line of one does not end in a number, or if the sum is too great.
 pub fn drops_at(alloc: Global, table: &[u8], front: Endpoint) -> Result<Option<u64>, AllocError>
     ensures { IfOk result (λ found. MatchOption found ((n : ℕ) → AreDropsAt front table.now n → ⊥) (AreDropsAt front table.now)) }
 {

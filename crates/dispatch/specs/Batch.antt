@@ -1,4 +1,4 @@
--- What a batch makes of the datagrams that its source gives (docs/SWITCH.md, "Batches").
+-- The effect of a batch on the datagrams of its source (docs/SWITCH.md, "Batches").
 use Rattle.std.specs.Prelude.{◌≡◌, ◌+◌, ◌<◌, ◌∷◌, ◌⊎◌, Bool, Err, List, Ok, Result, [], false, flat_map, length, map, suc, sum_by, take, true, ℕ}
 use Rattle.read_section.specs.Section.{HoldsLastSeen, IsWholeSection}
 use Rattle.read_section.specs.Worker.{WorkerValue}
@@ -17,7 +17,7 @@ pub use Rattle.packet_verdict.specs.Kind.{kind_of}
 use Rattle.packet_verdict.specs.Sound.{ProgramsAreSound}
 use Rattle.packet_verdict.specs.Verdict.{value_of, verdict}
 
--- what a verdict sends: the first bytes of the packet
+-- the bytes that a verdict sends: the first bytes of the packet
 abbrev pub delivery : Verdict → List ℕ → List Sent
 delivery (Deliver group member to bytes) packet = record { to = to; bytes = take bytes packet } ∷ []
 delivery _ packet = []
@@ -31,7 +31,7 @@ pub record Judged : Type 0 where
   pub verdict : Verdict
   pub failed : Bool
 
--- it was judged in a section of its own, by the newest version that its worker had seen at the section's pin, whose programs
+-- it was judged in its own section, by the newest version that its worker had seen at the section's pin, whose programs
 -- never get stuck on it
 pub record IsJudged (before : WorkerValue) (judged : Judged) : Type 0 where
   pub own_section : IsWholeSection before judged.inside judged.after
@@ -48,7 +48,7 @@ AreJudged before (first ∷ rest) after = IsJudged before first × AreJudged fir
 abbrev pub packets_of : List Judged → List (List ℕ)
 packets_of judged = map (λ (one : Judged). one.packet) judged
 
--- what was sent and did not fail
+-- the sends that did not fail
 abbrev pub sent_unless : Bool → List Sent → List Sent
 sent_unless true sent = []
 sent_unless false sent = sent
@@ -82,7 +82,7 @@ abbrev pub all_counted_for : List Judged → CounterValue → CounterValue
 all_counted_for [] counter = counter
 all_counted_for (first ∷ rest) counter = all_counted_for rest (counted_for first counter)
 
--- what a batch is called with, as it is at some moment
+-- the arguments of a batch, as they are at some moment
 pub record Parts : Type 0 where
   pub worker : WorkerValue
   pub counter : CounterValue
@@ -124,7 +124,7 @@ pub record IsCutShort (room : ℕ) (before after : Parts) (judged : Judged) : Ty
   pub source_healthy : after.source.failures ≡ before.source.failures
   pub outbox_failures : after.outbox.failures ≡ one_if judged.failed + before.outbox.failures
 
--- it came to its limit, or its source told that no more come
+-- it came to its limit, or its source reported that no more come
 abbrev pub Ends : Bool → ℕ → ℕ → Parts → Type 0
 Ends true judged limit after = judged ≡ limit
 Ends false judged limit after = (judged < limit) × IsAtEnd after.source.coming

@@ -1,4 +1,4 @@
--- Of which jobs totals tell, and which counters come back (docs/SWITCH.md, "Workers", "Tallies").
+-- The jobs that totals count, and the counters that come back (docs/SWITCH.md, "Workers", "Tallies").
 use Rattle.std.specs.Prelude.{◌≡◌, ◌++◌, ◌∷◌, List, [], length, map, ℕ}
 use Rattle.std.specs.List.{All}
 use Rattle.atomic_table.specs.Seated.{TableId}

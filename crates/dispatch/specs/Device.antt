@@ -1,4 +1,4 @@
--- What contracts see of a source and of an outbox: how often it failed and, where it tells them, its datagrams.
+-- A source and an outbox as contracts see them: how often it failed and, if they are known, its datagrams.
 use Rattle.std.specs.Prelude.{◌≡◌, ◌++◌, ◌∷◌, Err, List, None, Ok, Option, Result, Some, [], map, suc, take, ℕ}
 use Rattle.ipv4_fields.specs.declared.endpoint.Endpoint.{Endpoint}
 
@@ -17,7 +17,7 @@ pub record OutboxValue : Type 0 where
   pub failures : ℕ
   pub taken : Option (List Sent)
 
--- a call failed exactly where the count of failures grew, by one
+-- a call failed exactly if the count of failures grew, by one
 abbrev pub CountsFailure : {A E : Type 0} → Result A E → ℕ → ℕ → Type 0
 CountsFailure (Ok answer) before after = after ≡ before
 CountsFailure (Err fault) before after = after ≡ suc before
@@ -28,24 +28,24 @@ Gives room None after given = Unit {0}
 Gives room (Some coming) None given = ⊥
 Gives room (Some coming) (Some later) given = (whole : List (List ℕ)) × (coming ≡ whole ++ later) × (given ≡ map (take room) whole)
 
--- what a source gave that answered so, and whose buffer then has these bytes
+-- the datagrams of a source whose call ended so, and whose buffer then has these bytes
 abbrev pub given_in : {E : Type 0} → List ℕ → Result (Option ℕ) E → List (List ℕ)
 given_in bytes (Ok (Some size)) = take size bytes ∷ []
 given_in bytes (Ok None) = []
 given_in bytes (Err fault) = []
 
--- it has no datagram any more, where it tells that
+-- it has no datagram any more, if its datagrams are known
 abbrev pub IsAtEnd : Option (List (List ℕ)) → Type 0
 IsAtEnd None = Unit {0}
 IsAtEnd (Some coming) = coming ≡ []
 
--- what an outbox tells, as of its sends, is what it told before, and then these; it may tell nothing from some call on
+-- the log of an outbox, such as that of its sends, is what it was before, and then these; from some call on it may be unknown
 abbrev pub Takes : {A : Type 0} → Option (List A) → Option (List A) → List A → Type 0
 Takes before None more = Unit {0}
 Takes None (Some later) more = ⊥
 Takes (Some earlier) (Some later) more = later ≡ earlier ++ more
 
--- what an outbox took that answered so
+-- the datagrams that an outbox took whose call ended so
 abbrev pub taken_by : {A E : Type 0} → Result A E → Endpoint → List ℕ → List Sent
 taken_by (Ok done) to bytes = record { to = to; bytes = bytes } ∷ []
 taken_by (Err fault) to bytes = []

@@ -1,4 +1,4 @@
--- What a worker's thread makes of its job (docs/SWITCH.md, "Workers").
+-- The run of a job by a worker's thread (docs/SWITCH.md, "Workers").
 use Rattle.std.specs.Prelude.{◌≡◌, ◌+◌, ◌%◌, ◌^◌, ◌∷◌, Err, List, Ok, Option, Result, [], false, true, ℕ}
 use Rattle.dispatch.specs.declared.batches.BatchDone.{BatchDone}
 use Rattle.dispatch.specs.declared.batches.BatchFault.{BatchFault}
@@ -12,7 +12,7 @@ GoesOn (Ok done) = done.more ≡ true
 GoesOn (Err ReceiveFailed) = Unit {0}
 GoesOn (Err CountFull) = ⊥
 
--- it ends with a batch whose source told that no more come, or whose counter is full
+-- it ends with a batch whose source reported that no more come, or whose counter is full
 abbrev pub EndsWith : Result BatchDone BatchFault → Type 0
 EndsWith (Ok done) = done.more ≡ false
 EndsWith (Err ReceiveFailed) = ⊥
@@ -31,8 +31,8 @@ pub data GateEvent : Type 0 where
   started : (batch : ℕ) → GateEvent
   ended : (batch : ℕ) → GateEvent
 
--- A job whose first batch has this number, and each further one `step` more, modulo 2^64. It is told that each batch begins, and then that it
--- has ended, before the next one begins.
+-- A job whose first batch has this number, and each further one `step` more, modulo 2^64. The gate is called when each batch begins, and
+-- then when it has ended, before the next one begins.
 pub data IsNumberedJob (room limit step : ℕ) : ℕ → Parts → Parts → List GateEvent → Type 0 where
   last_batch : (number : ℕ) (before after : Parts) (answer : Result BatchDone BatchFault) → IsBatch room limit before after answer → EndsWith answer
       → IsNumberedJob room limit step number before after (started number ∷ ended number ∷ [])

@@ -1,9 +1,9 @@
--- What contracts see of a source and of an outbox in memory.
+-- A source and an outbox in memory as contracts see them.
 use Rattle.std.specs.Prelude.{◌==◌, ◌-◌, ◌^◌, ◌∷◌, if◌then◌else◌, List, None, Option, Some, [], drop, sum_by, take, ℕ}
 use Rattle.dispatch.specs.declared.memory.Extent.{Extent}
 use Rattle.dispatch.specs.Device.{OutboxValue, Sent}
 
--- the sends whose bytes lie one behind the other
+-- the sends whose bytes come one after the other
 abbrev pub sent_in : List Extent → List ℕ → List Sent
 sent_in [] bytes = []
 sent_in (first ∷ rest) bytes = record { to = first.to; bytes = take first.len bytes } ∷ sent_in rest (drop first.len bytes)
@@ -11,7 +11,7 @@ sent_in (first ∷ rest) bytes = record { to = first.to; bytes = take first.len 
 abbrev pub len_of : List Extent → ℕ
 len_of extents = sum_by (λ (extent : Extent). extent.len) extents
 
--- what was sent, and how often a send failed
+-- the sends, and how often one failed
 pub record SendsValue : Type 0 where
   pub sent : List Sent
   pub failures : ℕ
@@ -20,7 +20,7 @@ pub record SendsValue : Type 0 where
 abbrev pub MOST_FAILURES : ℕ
 MOST_FAILURES = 2 ^ 64 - 1
 
--- it tells what it was sent for as long as it can count another failure
+-- the sends are known as long as it can count another failure
 abbrev pub told : SendsValue → Option (List Sent)
 told sends = if sends.failures == MOST_FAILURES then None else Some sends.sent
 

@@ -1,4 +1,4 @@
--- What a contract sees of a Tally and of its Counters (docs/SWITCH.md, "Tallies").
+-- A Tally and its Counters as contracts see them (docs/SWITCH.md, "Tallies").
 use Rattle.std.specs.Prelude.{◌≡◌, ◌==◌, ◌+◌, ◌≤◌, ◌∷◌, if◌then◌else◌, List, [], length, slice_index, suc, zero, ℕ}
 use Rattle.std.specs.List.{All, Contains}
 use Rattle.atomic_table.specs.Seated.{TableId}
@@ -22,7 +22,7 @@ place_of ReceiveFailed = 6
 abbrev pub total_of : Totals → Kind → ℕ
 total_of totals kind = slice_index totals.counts (place_of kind)
 
--- how often a number stands in a list
+-- how often a number occurs in a list
 abbrev pub times : ℕ → List ℕ → ℕ
 times n [] = 0
 times n (first ∷ rest) = (if first == n then 1 else 0) + times n rest
@@ -49,11 +49,11 @@ abbrev pub loaded_below : ℕ → List ℕ → List Load → List Load
 loaded_below zero words log = log
 loaded_below (suc place) words log = record { place = place; word = slice_index words place } ∷ loaded_below place words log
 
--- one load of each total, which gave these totals, in the order of their line
+-- one load of each total, which returned these totals, in the order of their line
 abbrev pub all_loaded : Totals → TallyValue → TallyValue
 all_loaded totals tally = record tally { log = loaded_below KINDS totals.counts tally.log }
 
--- no load of that word gave more than this
+-- no load of that word returned more than this
 abbrev pub GaveAtMost : List Load → ℕ → ℕ → Type 0
 GaveAtMost log place word = (load : Load) → Contains log load → load.place ≡ place → load.word ≤ word
 

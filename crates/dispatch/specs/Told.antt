@@ -1,4 +1,4 @@
--- What an outbox is told of the datagrams of a batch, in order (docs/SWITCH.md, "Devices").
+-- The notes that an outbox takes of the datagrams of a batch, in order (docs/SWITCH.md, "Devices").
 use Rattle.std.specs.Prelude.{◌≡◌, ◌++◌, ◌∷◌, ◌⊎◌, Bool, Err, List, Ok, Option, Result, [], false, flat_map, true, ℕ}
 use Rattle.dispatch.specs.declared.batches.BatchDone.{BatchDone}
 use Rattle.dispatch.specs.declared.batches.BatchFault.{BatchFault}
@@ -12,7 +12,7 @@ pub data Told : Type 0 where
   judged_as : Verdict → List ℕ → Told
   send_failed : Told
 
--- what a send tells
+-- the notes of a send
 abbrev pub told_by_send : {A E : Type 0} → Result A E → List Told
 told_by_send (Ok done) = []
 told_by_send (Err fault) = send_failed ∷ []
@@ -21,14 +21,14 @@ abbrev pub failure_told : Bool → List Told
 failure_told true = send_failed ∷ []
 failure_told false = []
 
--- what is told of a datagram: its verdict, and then its send, if that failed
+-- the notes of a datagram: its verdict, and then its send, if that failed
 abbrev pub told_of : Judged → List Told
 told_of judged = judged_as judged.verdict judged.packet ∷ failure_told judged.failed
 
 abbrev pub all_told : List Judged → List Told
 all_told judged = flat_map told_of judged
 
--- the same of a datagram whose verdict, or whose failed send, could not be counted: nothing is told of a verdict that is not counted
+-- the same for a datagram whose verdict, or whose failed send, could not be counted: there is no note of a verdict that is not counted
 abbrev pub told_of_last : Judged → List Told
 told_of_last judged = told_if judged.failed
   where
@@ -36,14 +36,14 @@ told_of_last judged = told_if judged.failed
     told_if true = told_of judged
     told_if false = []
 
--- what is told at the end of a batch
+-- the notes at the end of a batch
 abbrev pub IsToldAtEnd : ℕ → Parts → Parts → Result BatchDone BatchFault → List Told → Type 0
 IsToldAtEnd room before after (Ok done) told = told ≡ []
 IsToldAtEnd room before after (Err fault.ReceiveFailed) told = told ≡ []
 IsToldAtEnd room before after (Err fault.CountFull) told =
     (FailsToReceive room before after × (told ≡ [])) ⊎ ((last : Judged) × IsCutShort room before after last × (told ≡ told_of_last last))
 
--- a batch, whose outbox was told of each datagram once, in their order, and of nothing else
+-- a batch, whose outbox took note of each datagram once, in their order, and of nothing else
 pub record IsToldBatch (room limit : ℕ) (before after : Parts) (result : Result BatchDone BatchFault) (told told' : Option (List Told)) : Type 0 where
   pub batch : IsBatch room limit before after result
   pub last : List Told

@@ -1,4 +1,4 @@
--- The line that tells totals (docs/SWITCH.md, "Tallies").
+-- The line of totals (docs/SWITCH.md, "Tallies").
 use Rattle.std.specs.Prelude.{◌++◌, List, Option, codes, decimal, ℕ}
 use Rattle.std.specs.Io.KnownBytes.{Appends}
 use Rattle.packet_verdict.specs.declared.kind.Kind.{Kind}
@@ -14,6 +14,6 @@ totals_text totals =
     ++ codes " dropped " ++ count Dropped ++ codes " delivered " ++ count Delivered ++ codes " sendfailed " ++ count SendFailed
     ++ codes " receivefailed " ++ count ReceiveFailed
 
--- that line was written, and nothing else
+-- the line was written, and nothing else
 abbrev pub WritesTotals : Totals → Option (List ℕ) → Option (List ℕ) → Type 0
 WritesTotals totals before after = Appends before after (totals_text totals ++ codes "\n")

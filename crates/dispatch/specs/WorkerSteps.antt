@@ -1,4 +1,4 @@
--- What a batch does to the table: steps of its worker's own, and no other actor's (docs/TABLE.md, "The eight steps").
+-- The steps of a batch on the table: those of its worker, and no other actor's (docs/TABLE.md, "The eight steps").
 use Rattle.std.specs.Prelude.{◌≡◌, ◌++◌, List}
 use Rattle.std.specs.List.{All}
 use Rattle.read_section.specs.Worker.{WorkerValue}

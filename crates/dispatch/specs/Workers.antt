@@ -1,4 +1,4 @@
--- What the threads of several jobs give back (docs/SWITCH.md, "Workers").
+-- The results of the threads of several jobs (docs/SWITCH.md, "Workers").
 use Rattle.std.specs.Prelude.{◌≡◌, ◌∷◌, List, [], length}
 use Rattle.dispatch.specs.declared.device.Outbox as Outbox
 use Rattle.dispatch.specs.declared.device.Source as Source
@@ -8,7 +8,7 @@ use Rattle.dispatch.specs.Batch.{Parts}
 use Rattle.dispatch.specs.Job.{IsJob}
 
 module _ {S O : Type 0} (source : Source.Ghosts S) (outbox : Outbox.Ghosts O) where
-  -- what a job starts with, and what it ends with
+  -- the start and the end of a job
   abbrev pub parts_of_job : Job S O source outbox → Parts
   parts_of_job job = record { worker = job.worker; counter = job.counter; source = source.state job.source; outbox = outbox.state job.outbox }
 

@@ -20,7 +20,7 @@ use read_section::Worker;
 pub struct BatchDone {
     /// How many datagrams it judged.
     pub judged: u64,
-    /// Its limit was reached; otherwise the source told that no more come.
+    /// True if its limit was reached; false if the source reported that no more come.
     pub more: bool,
 }
 
@@ -29,7 +29,7 @@ pub struct BatchDone {
 pub enum BatchFault {
     /// X1: the source failed, which was counted.
     ReceiveFailed,
-    /// X2: the counter is full. What it refused to count is counted nowhere.
+    /// X2: the counter is full. The event that it refused is counted nowhere.
     CountFull,
 }
 
@@ -43,7 +43,7 @@ impl From<CountFull> for BatchFault {
     }
 }
 
-// Receives a datagram. Before the source waits, the outbox hands on what it was told.
+// Receives a datagram. Before the source waits, the outbox hands on what it took note of.
 fn receive<S: Source, O: VerdictOutbox>(
     source: &mut S,
     outbox: &mut O,
@@ -62,7 +62,7 @@ fn receive<S: Source, O: VerdictOutbox>(
     source.next(buf)
 }
 
-// The datagrams of a batch. What the outbox was told last, it may not have handed on.
+// Judges the datagrams of a batch. The outbox may not have handed on what it took note of last.
 fn run_batch<S: Source, O: VerdictOutbox>(
     worker: &mut Worker,
     counter: &mut Counter,
@@ -101,8 +101,8 @@ fn run_batch<S: Source, O: VerdictOutbox>(
     })
 }
 
-/// Judges up to `limit` datagrams, as `batch` does. The outbox is told each verdict once, after that was counted, and each failed
-/// send. Before the source waits, and at the end, the outbox hands on what it was told.
+/// Judges up to `limit` datagrams, as `batch` does. The outbox takes note of each verdict once, after the verdict was counted, and of
+/// each failed send. Before the source waits, and at the end, the outbox hands on what it took note of.
 pub fn batch_told<S: Source, O: VerdictOutbox>(
     worker: &mut Worker,
     counter: &mut Counter,
@@ -118,7 +118,7 @@ pub fn batch_told<S: Source, O: VerdictOutbox>(
         (O.told outbox.old) (O.told outbox.new) }
     ensures handed_on { O.IsHandedOn outbox.new }
 
-    // Whatever it answers.
+    // Whatever the result is.
     ensures outside { IsOutside worker.old.view.stage → IsOutside worker.new.view.stage }
     ensures only_own_steps { AddsOwnSteps worker.old worker.new }
 {
@@ -127,10 +127,10 @@ pub fn batch_told<S: Source, O: VerdictOutbox>(
     answer
 }
 
-/// Judges up to `limit` datagrams, each in a section of its own by the newest version that the worker sees then. After the
+/// Judges up to `limit` datagrams, each in its own section, by the newest version that the worker sees then. After the
 /// section the verdict is counted; then the kept bytes are sent. A failed send is counted, and the batch goes on.
 ///
-/// Each datagram is received into `buf`. Takes no memory; waits where the source or the outbox does.
+/// Each datagram is received into `buf`. Takes no memory; waits when the source or the outbox does.
 pub fn batch<S: Source, O: Outbox>(
     worker: &mut Worker,
     counter: &mut Counter,
@@ -144,7 +144,7 @@ pub fn batch<S: Source, O: Outbox>(
         (record { worker = worker.old; counter = counter.old; source = S.state source.old; outbox = O.state outbox.old })
         (record { worker = worker.new; counter = counter.new; source = S.state source.new; outbox = O.state outbox.new }) result }
 
-    // Whatever it answers.
+    // Whatever the result is.
     ensures outside { IsOutside worker.old.view.stage → IsOutside worker.new.view.stage }
     ensures only_own_steps { AddsOwnSteps worker.old worker.new }
 {

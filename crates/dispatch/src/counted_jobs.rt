@@ -1,4 +1,4 @@
-//! Jobs in threads of their own, and the counters that come back (docs/SWITCH.md, "Workers", "Tallies").
+//! Jobs in separate threads, and the counters that come back (docs/SWITCH.md, "Workers", "Tallies").
 
 ghost use Rattle.std.specs.Prelude.{◌≡◌, ◌+◌, ◌++◌, ◌<◌, ◌≤◌, Err, IfOk, map, vec_capacity, vec_len};
 ghost use Rattle.dispatch.specs.Counted.{AreCountersBack};
@@ -13,7 +13,7 @@ use std::alloc::Global;
 use std::sync::Wait;
 use std::thread::Threads;
 
-// Puts the counters of the jobs behind the others, for which there is room.
+// Appends the counters of the jobs to the others. There is room for them.
 fn take_back<S: Source + Drop, O: Outbox + Drop>(
     dones: Vec<Done<S, O>>,
     counters: &mut Vec<Counter>,
@@ -35,10 +35,10 @@ fn take_back<S: Source + Drop, O: Outbox + Drop>(
     }
 }
 
-/// Runs each job to its end, as `run_workers` does with `side` beside them, and gives the counters back: the spare ones, and then
-/// those of the jobs, in their order.
+/// Runs each job to its end, as `run_workers` does with `side` beside them, and returns the counters: the spare ones, and then those
+/// of the jobs, in their order.
 ///
-/// All memory but that of the threads is taken before one is started. It may wait, as `run_workers` does.
+/// Takes all memory but that of the threads before it starts one. May wait, as `run_workers` does.
 pub fn run_counted<
     R: Threads + Wait + Sync,
     S: Source + Send + Drop,

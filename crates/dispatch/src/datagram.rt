@@ -1,4 +1,4 @@
-//! One datagram: judged in a section of its own, counted, and sent.
+//! One datagram: judged in its own section, counted, and sent.
 
 ghost use Rattle.std.specs.Prelude.{◌≡◌, ◌≤◌, OnErr, OnOk, length};
 ghost use Rattle.bpf_machine.specs.declared.TheConstants.{MAX_PACKET};
@@ -11,8 +11,8 @@ use crate::told::VerdictOutbox;
 use packet_verdict::{Kind, Verdict, judge};
 use read_section::Worker;
 
-// One whole section, in which the packet is judged. Not inlined: in a function that does no more, what the section keeps lies in
-// registers while a program runs.
+// One whole section, in which the packet is judged. Not inlined: in a function that does no more, the section's state lies in registers
+// while a program runs.
 #[inline(never)]
 fn judge_in_section(worker: &mut Worker, packet: &[u8]) -> Verdict
     requires packet { length packet.now ≤ MAX_PACKET }
@@ -25,7 +25,7 @@ fn judge_in_section(worker: &mut Worker, packet: &[u8]) -> Verdict
     verdict
 }
 
-// Sends what the verdict keeps of the packet, if it is to be delivered. A failed send is counted.
+// Sends what the verdict keeps of the packet, if the verdict delivers it. A failed send is counted.
 fn deliver<O: VerdictOutbox>(
     verdict: Verdict,
     packet: &[u8],
@@ -53,7 +53,7 @@ fn deliver<O: VerdictOutbox>(
     }
 }
 
-// Judges a datagram, counts its verdict, tells it to the outbox, and then sends what is to be delivered.
+// Judges a datagram, counts its verdict, passes the verdict to the outbox, and then sends what the verdict delivers.
 pub fn handle<O: VerdictOutbox>(
     worker: &mut Worker,
     counter: &mut Counter,

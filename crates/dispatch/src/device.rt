@@ -10,11 +10,11 @@ use packet_verdict::Verdict;
 #[derive(Clone, Copy, Debug, PartialEq, Eq, Drop)]
 pub struct Failed;
 
-/// Where datagrams come from.
+/// A source of datagrams.
 pub trait Source {
     ghost state: { Self → SourceValue };
 
-    /// Writes the next datagram into the front of `buf`, and tells its size; a longer one is cut to the buffer. `None` where no
+    /// Writes the next datagram into the front of `buf`, and returns its size; a longer one is cut to the buffer. Returns `None` if no
     /// more come.
     fn next(&mut self, buf: &mut [u8]) -> Result<Option<usize>, Failed>
         ensures device_failed { CountsFailure result (state self.old).failures (state self.new).failures }
@@ -22,7 +22,7 @@ pub trait Source {
         ensures given_once { Gives (length buf.new) (state self.old).coming (state self.new).coming (given_in buf.new result) }
         ensures end { result ≡ Ok None → IsAtEnd (state self.new).coming };
 
-    /// Tests whether `next` has to wait for a datagram now. Meanwhile the outbox is to keep nothing back.
+    /// Tests whether `next` must wait for a datagram now. Meanwhile the outbox should keep nothing back.
     fn would_wait(&mut self) -> bool
         ensures unchanged { state self.new ≡ state self.old }
     {
@@ -30,7 +30,7 @@ pub trait Source {
     }
 }
 
-/// Where datagrams go.
+/// A destination of datagrams.
 pub trait Outbox {
     ghost state: { Self → OutboxValue };
 

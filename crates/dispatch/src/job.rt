@@ -11,7 +11,7 @@ use crate::tally::Counter;
 use read_section::Worker;
 use std::sync::Wait;
 
-/// Is told where each batch of a job begins and ends, by the batch's number.
+/// Is called when each batch of a job begins and ends, with the batch's number.
 pub trait Gate {
     fn start(&self, batch: u64);
 
@@ -27,8 +27,8 @@ impl Gate for OpenGate {
     fn done(&self, _batch: u64) {}
 }
 
-/// Is told where each batch of one worker's job begins and ends, by the batch's number. Contracts see the numbers in their order, if they
-/// are known.
+/// Is called when each batch of one worker's job begins and ends, with the batch's number. Contracts see the numbers in their order, if
+/// they are known.
 pub trait WorkerGate {
     ghost log: { Self → Option (List GateEvent) };
 
@@ -39,7 +39,7 @@ pub trait WorkerGate {
         ensures logged { Takes (log self.old) (log self.new) (ended batch ∷ []) };
 }
 
-// The gate of all workers, as one of them knows it. Others tell it numbers meanwhile, so contracts know none.
+// The gate of all workers, as one of them knows it. Others pass numbers to it meanwhile, so contracts know none.
 #[derive(Drop)]
 struct SharedGate<'a, G: Gate> {
     gate: &'a G,
@@ -59,7 +59,7 @@ impl<G: Gate> WorkerGate for SharedGate<'_, G> {
     }
 }
 
-// Whether a job goes on after a batch that ended so.
+// Tests whether a job goes on after a batch that ended so.
 fn goes_on(answer: &Result<BatchDone, BatchFault>) -> bool
     ensures goes_on { result ≡ true → GoesOn answer.now }
     ensures ends { result ≡ false → EndsWith answer.now }
@@ -71,11 +71,11 @@ fn goes_on(answer: &Result<BatchDone, BatchFault>) -> bool
     }
 }
 
-/// Runs batches of at most `limit` datagrams, until the source tells that no more come or the counter is full; where the source
-/// failed it goes on. The first batch has the number `first`, each further one `step` more, modulo 2^64.
+/// Runs batches of at most `limit` datagrams, until the source reports that no more come, or the counter is full. If the source failed,
+/// goes on. The first batch has the number `first`, each further one `step` more, modulo 2^64.
 ///
-/// It may wait, since nothing says that the source ever ends. A batch of no datagrams would ask the source nothing, and the job
-/// go on for ever: so the limit is at least 1.
+/// May wait, since nothing says that the source ever ends. A batch of no datagrams would ask the source nothing, and the job would go
+/// on for ever, so the limit is at least 1.
 pub fn run_job<R: Wait, S: Source, O: Outbox, G: Gate>(
     rt: &R,
     gate: &G,
@@ -99,7 +99,7 @@ pub fn run_job<R: Wait, S: Source, O: Outbox, G: Gate>(
     )
 }
 
-/// As `run_job`, with a gate of this worker alone.
+/// Runs a job as `run_job` does, with a gate of this worker alone.
 pub fn run_told_job<R: Wait, S: Source, O: Outbox, G: WorkerGate>(
     rt: &R,
     gate: &mut G,

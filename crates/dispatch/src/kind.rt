@@ -1,4 +1,4 @@
-//! Where a tally counts each kind, and the totals of all of them (docs/SWITCH.md, "Tallies").
+//! The word of a tally that counts each kind, and the totals of all kinds (docs/SWITCH.md, "Tallies").
 
 ghost use Rattle.std.specs.Prelude.{◌≡◌, OnOk, Some};
 ghost use Rattle.dispatch.specs.Tally.{place_of, total_of};

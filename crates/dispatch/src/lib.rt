@@ -1,6 +1,6 @@
-//! Dispatching: what becomes of the datagrams that a worker receives (docs/SWITCH.md, "Batches", "Workers"), each judged in a
-//! section of its own, and tallies of it ("Tallies"). No call takes memory but `Tally::open`, `Datagrams::push`,
-//! `Sends::with_room`, `run_workers` and `run_counted`.
+//! Dispatching: the handling of the datagrams that a worker receives (docs/SWITCH.md, "Batches", "Workers"), each judged in its own
+//! section, and tallies of the results ("Tallies"). No call takes memory but `Tally::open`, `Datagrams::push`, `Sends::with_room`,
+//! `run_workers` and `run_counted`.
 #![tactic(auto)]
 
 mod batches;
@@ -31,5 +31,5 @@ pub use told::VerdictOutbox;
 pub use worker_job::{Done, Job, finish};
 pub use workers::{RunFault, run_workers};
 
-/// The answer of a call that was refused memory.
+/// The error of a call that was refused memory.
 pub use std::alloc::AllocError as OutOfMemory;

@@ -33,7 +33,7 @@ impl Datagrams {
         }
     }
 
-    /// Puts a datagram behind the others.
+    /// Appends a datagram to the others.
     pub fn push(&mut self, datagram: Vec<u8>) -> Result<(), OutOfMemory>
         ensures behind { OnOk result (self.new ≡ self.old ++ datagram.items ∷ []) }
         ensures kept { OnErr result (self.new ≡ self.old) }
@@ -58,7 +58,7 @@ impl Source for Datagrams {
     }
 }
 
-// Where one send's bytes go, and how many they are.
+// The destination of one send's bytes, and their number.
 #[derive(Clone, Copy, Debug)]
 pub(crate) struct Extent {
     pub(crate) to: Endpoint,
@@ -67,7 +67,7 @@ pub(crate) struct Extent {
 
 /// Keeps what it is sent in memory that was reserved before: a send past its room fails.
 ///
-/// Contracts see the sends, and how often one failed; what was sent is no longer told where 2^64 - 1 sends failed.
+/// Contracts see the sends, and how often one failed. After 2^64 - 1 failed sends they no longer see what was sent.
 #[derive(Drop)]
 pub struct Sends {
     extents: Vec<Extent>,
@@ -87,7 +87,7 @@ impl Model for Sends {
 }
 
 impl Sends {
-    /// Room for so many sends, and for so many bytes in all of them.
+    /// Makes room for `sends` sends, and for `bytes` bytes in all of them.
     pub fn with_room(alloc: Global, sends: usize, bytes: usize) -> Result<Sends, OutOfMemory>
         ensures none { IfOk result (λ outbox. outbox ≡ record { sent = []; failures = 0 }) }
     {
@@ -98,28 +98,28 @@ impl Sends {
         })
     }
 
-    /// Tells how many sends it keeps.
+    /// Returns how many sends it keeps.
     pub fn count(&self) -> usize
         ensures count { result ≡ length self.now.sent }
     {
         self.extents.len()
     }
 
-    /// Tells where send `i`, counted from 0, went.
+    /// Returns the destination of send `i`, counted from 0.
     pub fn to(&self, i: usize) -> Option<Endpoint>
         ensures to { result ≡ option_map (λ (sent : Sent). sent.to) (slice_get self.now.sent i) }
     {
         Some(self.extents.get(i)?.to)
     }
 
-    /// The bytes of all sends, one behind the other.
+    /// Returns the bytes of all sends, one after the other.
     pub fn bytes(&self) -> &[u8]
         ensures bytes { result.now ≡ flat_map (λ (sent : Sent). sent.bytes) self.now.sent }
     {
         &self.bytes
     }
 
-    // Keeps one send more, where there is room for it.
+    // Keeps one send more, if there is room for it.
     fn keep(&mut self, to: Endpoint, bytes: &[u8]) -> bool
         ensures kept { result ≡ true
             → self.new ≡ record self.old { sent = self.old.sent ++ record { to = to; bytes = bytes.now } ∷ [] } }

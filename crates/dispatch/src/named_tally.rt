@@ -1,4 +1,4 @@
-//! A tally whose table its type tells (docs/SWITCH.md, "Tallies").
+//! A tally whose type names its table (docs/SWITCH.md, "Tallies").
 
 ghost use Rattle.std.specs.Prelude.{◌≡◌};
 ghost use Rattle.atomic_table.specs.Seated.{TableId};
@@ -6,7 +6,7 @@ ghost use Rattle.atomic_table.specs.Seated.{TableId};
 use crate::tally::Tally;
 use std::marker::{Brand, PhantomData};
 
-/// The name of a tally, which tells its table. Each call that passes `Brand` picks it.
+/// The name of a tally, which names its table too. Each call that passes `Brand` picks it.
 pub trait TallyName {
     ghost table: { TableId };
 }
@@ -17,7 +17,7 @@ impl TallyName for Brand {
     ghost table = { record { words = 0; slots = 0; views_name = 0; atom = 0; block = 0; offset = 0; slot_names = [] } };
 }
 
-/// A tally whose table its type tells, so that it is known also behind a `&mut` that a closure held.
+/// A tally whose type names its table, so that the table is known also through a `&mut` that a closure held.
 #[derive(Drop)]
 pub struct NamedTally<N: TallyName> {
     pub tally: Tally,

@@ -1,4 +1,4 @@
-//! Tallies: counters in threads of their own, a total of each kind that can be read meanwhile, and the sums at the end
+//! Tallies: counters in separate threads, a total of each kind that can be read meanwhile, and the sums at the end
 //! (docs/SWITCH.md, "Tallies").
 
 ghost use Rattle.std.specs.Prelude.{◌≡◌, ◌+◌, ◌++◌, ◌<◌, ◌↔◌, ◌∷◌, [], IfOk, IsErr, OnErr, OnOk, length, slice_index, ℕ};
@@ -72,7 +72,7 @@ impl Model for Tally {
     ghost invariant = { λ t. IsTallySeat t.seat.me.0 × IsSeatOf t.seat.me.1 t.seat.table_id (arc_value t.table).shared.table_id };
 }
 
-// A counter at a seat of its own, split off a seat that has counters to give.
+// A counter at its own seat, split off a seat that has counters left.
 fn new_counter(
     table: &Arc<TallyTable, Global>,
     seat: &mut TallySeat,
@@ -144,8 +144,7 @@ impl Tally {
         Ok((Tally { table, seat }, counters))
     }
 
-    /// Tells how often a kind was counted so far, by one load of its word, also while counters count. Takes no memory and never
-    /// waits.
+    /// Returns how often a kind was counted so far, by one load of its word, also while counters count. Takes no memory and never waits.
     pub fn read(&mut self, kind: Kind) -> u64
         ensures one_load { self.new ≡ loaded (place_of kind) result self.old }
         ensures no_less { GaveAtMost self.old.log (place_of kind) result }
@@ -210,7 +209,7 @@ fn load_all(table: &TallyTable, seat: &mut TallySeat) -> [u64; KINDS]
     counts
 }
 
-/// Ends a tally: how often its counters, all of them, counted each kind. Takes no memory.
+/// Ends a tally, and returns how often its counters, all of them, counted each kind. Takes no memory.
 /// The reason: docs/INTERNALS.md, "Seats and sums of a tally".
 #[tactic(auto, using(crate::proofs::TallyLemmas::place_low))]
 pub fn gather(tally: Tally, counters: Vec<Counter>) -> Totals

@@ -4,17 +4,17 @@ use atomic_table::{Join, Play, Seat, Split, Table, TableRule};
 use std::alloc::Global;
 use std::collections::LinkedList;
 
-/// A load of a word, and what it gave. No value of it is made.
+/// A load of a word, and its result. No value of this type is made.
 pub struct Load {
     pub place: usize,
     pub word: u64,
 }
 
-/// What a seat at the table of a tally knows. No value of it is made.
+/// The knowledge of a seat at the table of a tally. No value of this type is made.
 pub struct CountView {
     /// The words to each of which it added 1, the newest first.
     pub added: LinkedList<usize>,
-    /// How many counters step by the seat, or are still to get seats of their own.
+    /// How many counters step by the seat, or will still get their own seats.
     pub counters: usize,
     /// Its loads, the newest first.
     pub loads: LinkedList<Load>,

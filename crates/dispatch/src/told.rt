@@ -1,4 +1,4 @@
-//! Outboxes that tell what they took note of (docs/SWITCH.md, "Devices").
+//! Outboxes whose contracts show what they took note of (docs/SWITCH.md, "Devices").
 
 ghost use Rattle.std.specs.Prelude.{◌≡◌, ◌∷◌, List, Option, []};
 ghost use Rattle.dispatch.specs.Device.{CountsFailure, OutboxValue, Takes, taken_by};
@@ -8,14 +8,15 @@ use crate::device::{Failed, Outbox};
 use ipv4_fields::{Endpoint, dispatchable};
 use packet_verdict::Verdict;
 
-/// An outbox, and what it was told. Each outbox is one, of which nothing is known.
+/// An outbox, and what it took note of. Each `Outbox` is one, of whose notes nothing is known.
+/// The reason: docs/INTERNALS.md, "Calls of an outbox that may do nothing".
 pub trait VerdictOutbox {
     ghost state: { Self → OutboxValue };
 
-    /// The verdicts and the failed sends that it was told, in order, if they are known.
+    /// The verdicts and the failed sends that it took note of, in order, if they are known.
     ghost told: { Self → Option (List Told) };
 
-    /// It has handed on all that it was told.
+    /// States that it has handed on all that it took note of.
     ghost IsHandedOn: { Self → Type 0 };
 
     /// Sends the bytes as one datagram.
@@ -24,12 +25,12 @@ pub trait VerdictOutbox {
         ensures sent_once { Takes (state self.old).taken (state self.new).taken (taken_by result to bytes.now) }
         ensures told_once { Takes (told self.old) (told self.new) (told_by_send result) };
 
-    /// Is told the verdict of a packet.
+    /// Takes note of the verdict of a packet.
     fn tell(&mut self, verdict: Verdict, packet: &[u8])
         ensures unchanged { state self.new ≡ state self.old }
         ensures told_once { Takes (told self.old) (told self.new) (judged_as verdict packet.now ∷ []) };
 
-    /// Hands on all that it was told.
+    /// Hands on all that it took note of.
     fn hand_all_on(&mut self)
         ensures unchanged { state self.new ≡ state self.old }
         ensures told_kept { told self.new ≡ told self.old }

@@ -1,4 +1,4 @@
-//! Jobs by value, as a worker's thread takes and gives them (docs/SWITCH.md, "Workers").
+//! Jobs by value, as a worker's thread takes and returns them (docs/SWITCH.md, "Workers").
 
 ghost use Rattle.std.specs.Prelude.{◌≡◌, ◌≤◌, length};
 ghost use Rattle.bpf_machine.specs.declared.TheConstants.{MAX_PACKET};
@@ -10,7 +10,7 @@ use crate::tally::Counter;
 use read_section::Worker;
 use std::sync::Wait;
 
-/// What a worker's thread starts with: its parts, the buffer that datagrams are received into, and how many a batch judges at
+/// The start of a worker's thread: its parts, the buffer that datagrams are received into, and how many datagrams a batch judges at
 /// most.
 #[derive(Drop)]
 pub struct Job<S: Source, O: Outbox> {
@@ -34,7 +34,7 @@ pub struct Done<S: Source, O: Outbox> {
     pub buffer: Vec<u8>,
 }
 
-/// Runs a job to its end, as `run_job` does, and gives its parts back.
+/// Runs a job to its end, as `run_job` does, and returns its parts.
 pub fn finish<R: Wait, S: Source, O: Outbox, G: Gate>(
     rt: &R,
     gate: &G,

@@ -22,8 +22,7 @@ pub enum RunFault {
     OutOfMemory,
 }
 
-// Holds a job as it is before its thread is started. It promises that what the thread gives is the parts of that job, run to its
-// end.
+// Keeps a job as it is before its thread is started. Promises that the thread returns the parts of that job, run to its end.
 #[derive(Drop)]
 struct Finishes<S: Source, O: Outbox>(Snapshot<Job<S, O>>);
 
@@ -31,7 +30,7 @@ impl<S: Source, O: Outbox> Promise<Done<S, O>> for Finishes<S, O> {
     ghost kept_by = { λ promise done. IsDone S.Source O.Outbox promise.0.value done };
 }
 
-// Starts a thread for each job, in their order. False where one could not be started; those before it run.
+// Starts a thread for each job, in their order. Returns false if one could not be started; those before it run.
 fn start_each<
     's,
     'e,
@@ -73,7 +72,7 @@ fn start_each<
     true
 }
 
-// Waits for each thread, and gives their results in order.
+// Waits for each thread, and returns their results in order.
 fn join_each<R: Threads, S: Source + Drop, O: Outbox + Drop>(
     rt: &R,
     handles: Vec<PromisedHandle<Done<S, O>, Finishes<S, O>>>,
@@ -134,13 +133,13 @@ fn run_in<
     }
 }
 
-/// Runs each job to its end in a thread of its own, and `side` in the caller's thread meanwhile; returns once all have ended.
-/// The results stand in the order of the jobs. Of `w` jobs, job `i` calls its batch `j` by the number `j * w + i + 1`
-/// modulo 2^64, both counted from 0.
+/// Runs each job to its end in a separate thread, and `side` in the caller's thread meanwhile; returns once all have ended. The
+/// results are in the order of the jobs. With `w` jobs, job `i` calls its batch `j` by the number `j * w + i + 1` modulo 2^64, both
+/// counted from 0.
 ///
-/// It may wait, since nothing says that a source ever ends. The memory of handles and results is taken before a thread is
-/// started. Where one cannot be started, `side` is dropped without being run, and the threads that were started are waited for:
-/// let it own what ends their sources.
+/// May wait, since nothing says that a source ever ends. Takes the memory of handles and results before it starts a thread. If a thread
+/// cannot be started, drops `side` without running it, and waits for the threads that were started: let `side` own what ends their
+/// sources.
 pub fn run_workers<
     R: Threads + Wait + Sync,
     S: Source + Send + Drop,

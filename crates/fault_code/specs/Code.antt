@@ -1,4 +1,4 @@
--- How a code is printed (docs/COMMANDS.md, "Refusals").
+-- The printed text of a code (docs/COMMANDS.md, "Refusals").
 use Rattle.std.specs.Prelude.{◌++◌, List, None, Option, Some, [], codes, decimal, get_or, ℕ}
 use Rattle.std.specs.Char.{encode_utf8}
 use Rattle.fault_code.specs.declared.Code.{Code}

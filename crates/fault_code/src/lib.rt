@@ -1,4 +1,4 @@
-//! Codes of faults, as `V3` (docs/COMMANDS.md, "Refusals").
+//! Codes of faults, such as `V3` (docs/COMMANDS.md, "Refusals").
 #![tactic(auto)]
 
 ghost use Rattle.std.specs.Prelude.{◌≡◌, None, Some};
@@ -17,7 +17,7 @@ pub struct Code {
 }
 
 impl Code {
-    /// A code without a place.
+    /// Returns a code without a place.
     pub fn plain(letter: char, number: u8) -> Code
         ensures { result ≡ lettered letter number None }
     {
@@ -28,7 +28,7 @@ impl Code {
         }
     }
 
-    /// A code with a place.
+    /// Returns a code with a place.
     pub fn at(letter: char, number: u8, place: usize) -> Code
         ensures { result ≡ lettered letter number (Some place) }
     {

@@ -1,4 +1,4 @@
-//! The code of an arithmetic expression (pcap-filter(7), "expr1 relop expr2"): it leaves the value in A.
+//! The code of an arithmetic expression (pcap-filter(7), "expr1 relop expr2"), which leaves the value in A.
 
 ghost use Rattle.std.specs.Prelude.{◌≡◌, ◌+◌, ◌<◌, ◌≤◌, IfOk, IfSome, IsTrue, List, OnOk, ℕ};
 ghost use Rattle.bpf_verify.specs.declared.TheConstants.{CELLS};
@@ -61,7 +61,7 @@ fn size(size: Size) -> bpf_insn::Size
     }
 }
 
-// Tests whether the verifier takes an operation on a constant: a divisor is not 0, and a shift is below 32.
+// Tests whether the verifier accepts an operation on a constant: a divisor is not 0, and a shift is below 32.
 fn is_taken(operation: Operation, n: u32) -> bool
     ensures { IsTrue result → IsTaken operation n }
 {
@@ -74,7 +74,7 @@ fn is_taken(operation: Operation, n: u32) -> bool
     }
 }
 
-// Each of these tells whether X holds the header's length behind its code, and is told whether it did before.
+// Each of these takes whether X has the header's length before its code, and returns whether X has it after the code.
 fn apply_number<'a, A: Allocator>(
     code: &mut Code<'a, A>,
     operator: Operator,
@@ -111,7 +111,7 @@ fn apply<'a, A: Allocator>(
     }
 }
 
-// The index of an accessor, where it is a number that a load can take.
+// The index of an accessor, if it is a number that a load can take.
 fn direct_index<B: Allocator>(protocol: Protocol, index: &Arith<B>) -> Option<u32>
     ensures is { IfSome result (λ k. arith_tree_of index.now ≡ number k) }
     ensures direct { IfSome result (IsDirect protocol) }
@@ -119,7 +119,7 @@ fn direct_index<B: Allocator>(protocol: Protocol, index: &Arith<B>) -> Option<u3
     let Arith::Number(k) = index else {
         return None;
     };
-    // Behind the header's 60 bytes at most, the sum is below 2^32.
+    // With at most 60 bytes of header added, the sum is below 2^32.
     let most = match protocol {
         Protocol::Ip => (1 << 31) - 1,
         _ => u32::MAX - 60,
@@ -151,7 +151,7 @@ fn load_directly<'a, A: Allocator>(
     }
 }
 
-// The load at the place in A, which goes to X.
+// Loads from the place in A, through X.
 fn load_at<'a, A: Allocator>(code: &mut Code<'a, A>, bytes: Size) -> Result<(), AllocError>
     ensures loads { OnOk result (Extends (LoadsAt bytes) 2 code.old code.new) }
 {
@@ -178,7 +178,7 @@ fn load<'a, A: Allocator>(
     }
 }
 
-// Brings the value in A to X, and the one that waits in the cell to A.
+// Moves the value in A to X, and the saved value from the cell to A.
 fn restore<'a, A: Allocator>(code: &mut Code<'a, A>, cell: u32) -> Result<(), AllocError>
     requires cell { cell < CELLS }
     ensures restores { OnOk result (Extends (Restores cell) 2 code.old code.new) }
@@ -187,8 +187,9 @@ fn restore<'a, A: Allocator>(code: &mut Code<'a, A>, cell: u32) -> Result<(), Al
     code.push(Insn::LoadCell(cell))
 }
 
-/// Writes the code of an arithmetic expression, which uses scratch cells from `level` on: where its right side has code of
-/// its own, an operation puts its left value into the cell of its level, and goes on with its right side one level up.
+/// Writes the code of an arithmetic expression, which uses scratch cells from `level` on. If the right side of an
+/// operation needs code of its own, the operation saves its left value in the cell of its level, and its right side
+/// uses the next level.
 #[cycle(arithmetic)]
 pub(crate) fn arithmetic<'a, A: Allocator, B: Allocator>(
     code: &mut Code<'a, A>,
@@ -247,8 +248,8 @@ fn accessor<'a, A: Allocator, B: Allocator>(
     }
 }
 
-/// Writes the code of a right side whose left value, in A, waits in the cell of the level: it leaves the left value in A and
-/// the right one in X.
+/// Writes the code of the right side of an operation. The code saves the left value, which is in A, in the cell of the
+/// level; it leaves the left value in A and the right one in X.
 #[cycle(arithmetic)]
 pub(crate) fn pair<'a, A: Allocator, B: Allocator>(
     code: &mut Code<'a, A>,

@@ -1,4 +1,4 @@
-//! What a number from a packet is asked.
+//! Tests of a number from a packet.
 
 ghost use Rattle.std.specs.Prelude.{◌≡◌, ◌+◌, ◌≤◌, OnOk, false, length, true};
 ghost use Rattle.bpf_verify.specs.declared.TheConstants.{MAX_INSTRUCTIONS};
@@ -14,18 +14,18 @@ use filter_facts::Loaded;
 use filter_tree::Prefix;
 use std::alloc::{AllocError, Allocator};
 
-/// A question to a number.
+/// A test of a number.
 #[derive(Clone, Copy)]
 pub(crate) enum Check {
     /// It is this number.
     Equal(u32),
     /// It begins with the prefix.
     Covered(Prefix),
-    /// It is from the lesser to the greater of two.
+    /// It lies between the two, both included, in either order.
     Between(u16, u16),
 }
 
-// The code of each finds the number in A.
+// The code of each expects the number in A.
 fn covered<'a, A: Allocator>(
     code: &mut Code<'a, A>,
     prefix: Prefix,
@@ -68,7 +68,7 @@ fn between<'a, A: Allocator>(
     code.branch(Test::Greater, Operand::K(n.max(m) as u32), no, yes)
 }
 
-/// Writes the question.
+/// Writes the test.
 pub(crate) fn ask<'a, A: Allocator>(
     code: &mut Code<'a, A>,
     check: &Check,
@@ -86,7 +86,7 @@ pub(crate) fn ask<'a, A: Allocator>(
     }
 }
 
-/// Tells what A holds behind a question to what was loaded, `None` where that is not known.
+/// Returns what A has after a test of what was loaded, `None` if that is not known.
 pub(crate) fn left_in_a(check: &Check, loaded: Loaded) -> Option<Loaded>
     ensures { result ≡ where_kept (keeps_a check.now) loaded }
 {

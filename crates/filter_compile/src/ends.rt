@@ -20,11 +20,11 @@ use filter_facts::{Known, Loaded};
 use filter_tree::Direction;
 use std::alloc::{AllocError, Allocator};
 
-/// What is loaded of an end.
+/// The part of an end that is loaded.
 #[derive(Clone, Copy)]
 pub(crate) enum Part {
     Address,
-    /// X holds the length of the IPv4 header.
+    /// Needs the length of the IPv4 header in X.
     Port,
 }
 
@@ -48,7 +48,7 @@ impl Part {
     }
 }
 
-// Writes the test of one end, and tells what is known behind it, on both sides alike.
+// Writes the test of one end, and returns what is known after it, which is the same on both sides.
 fn test_end<'a, A: Allocator>(
     code: &mut Code<'a, A>,
     end: Loaded,
@@ -101,7 +101,7 @@ pub(crate) fn ends<'a, A: Allocator>(
     }
 }
 
-// Each of these holds a label of its own, which `ends` would drop on all its ways out.
+// Each of these has a label of its own, which `ends` would drop on every return.
 
 fn either_end<'a, A: Allocator>(
     code: &mut Code<'a, A>,

@@ -1,5 +1,5 @@
-//! The code of an expression: its parts stand one behind the other, each begins with what the one before tells, and goes
-//! where its truth leads.
+//! The code of an expression. The code of its parts is in sequence: each part begins with the facts known after the one
+//! before, and jumps to where its truth leads.
 
 ghost use Rattle.std.specs.Prelude.{◌≡◌, ◌+◌, ◌≤◌, IfOk, Some, length};
 ghost use Rattle.bpf_verify.specs.declared.TheConstants.{CELLS, MAX_INSTRUCTIONS};
@@ -25,8 +25,8 @@ use filter_facts::Known;
 use filter_tree::Expr;
 use std::alloc::{AllocError, Allocator};
 
-// A place where the first of two parts ends at last. Where no jump can be far, the end of both is near enough, and the second
-// one need not be weighed.
+// The last place where the code of the first of two parts can end. If no jump can be far, the end of both is near
+// enough, and the second part need not be weighed.
 fn first_end<B: Allocator>(end: u32, right: &Expr<B>) -> u32
     requires room { weight_of (tree_of right.now) ≤ end }
     ensures behind { end ≤ result + weight_of (tree_of right.now) }
@@ -38,7 +38,8 @@ fn first_end<B: Allocator>(end: u32, right: &Expr<B>) -> u32
     end - right.weight()
 }
 
-/// Writes the code of an expression, which ends at the place `end` at last. A primitive or a relation asks for no test in front.
+/// Writes the code of an expression, which ends at the place `end` at the latest. A primitive or a relation needs no
+/// test in front.
 #[cycle(expression)]
 pub(crate) fn expression<'a, A: Allocator, B: Allocator>(
     code: &mut Code<'a, A>,
@@ -64,7 +65,7 @@ pub(crate) fn expression<'a, A: Allocator, B: Allocator>(
     }
 }
 
-// Where the expression has one truth on all packets that fail the tests with which it begins, these stand once before it.
+// If the expression has the same truth on all packets that fail its first tests, these are written once before it.
 #[inline(never)]
 #[cycle(expression)]
 fn compound<'a, A: Allocator, B: Allocator>(
@@ -88,8 +89,8 @@ fn compound<'a, A: Allocator, B: Allocator>(
     }
 }
 
-// Writes the tests in front of an expression, and the expression behind them. Not inlined: it comes at most twice on a way down the
-// tree, and each level would clear room for it.
+// Writes the tests in front of an expression, and then the expression. Not inlined: it is called at most twice on a way
+// down the tree, but each level of the recursion would reserve stack for it.
 #[inline(never)]
 #[cycle(expression)]
 fn behind_guard<'a, A: Allocator, B: Allocator>(
@@ -127,8 +128,8 @@ fn behind_guard<'a, A: Allocator, B: Allocator>(
     })
 }
 
-// Writes the code of the parts, of which the first begins with what is known. What joins two parts stands apart, since it needs
-// more room.
+// Writes the code of the parts; the first begins with what is known. The functions that join two parts are separate,
+// since they need more stack.
 #[inline(always)]
 #[cycle(expression)]
 fn parts<'a, A: Allocator, B: Allocator>(
@@ -215,7 +216,7 @@ fn disjunction<'a, A: Allocator, B: Allocator>(
     })
 }
 
-// Falls through where it is true.
+// Falls through if it is true.
 #[cycle(expression)]
 fn left_of_and<'a, A: Allocator, B: Allocator>(
     code: &mut Code<'a, A>,
@@ -236,7 +237,7 @@ fn left_of_and<'a, A: Allocator, B: Allocator>(
     Ok(sides)
 }
 
-// Falls through where it is false.
+// Falls through if it is false.
 #[cycle(expression)]
 fn left_of_or<'a, A: Allocator, B: Allocator>(
     code: &mut Code<'a, A>,

@@ -19,7 +19,7 @@ pub enum CompileFault {
 }
 
 impl CompileFault {
-    /// The code (docs/COMMANDS.md, "Refusals").
+    /// Returns the code (docs/COMMANDS.md, "Refusals").
     pub fn code(self) -> Code
         ensures { result ≡ compile_code self }
     {

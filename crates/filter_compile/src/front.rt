@@ -1,5 +1,5 @@
-//! Which tests stand once in front of an expression: the version, or all that comes before ports where its parts are nothing
-//! but ports of one transport.
+//! The tests that are written once in front of an expression: the version, or every test that comes before ports if its
+//! parts are only ports of one transport.
 
 ghost use Rattle.std.specs.Prelude.{◌≡◌, ◌≢◌, ◌+◌, ◌≤◌, IfOk, IfSome, Some, false, length, true};
 ghost use Rattle.bpf_verify.specs.declared.TheConstants.{MAX_INSTRUCTIONS};
@@ -21,7 +21,7 @@ use filter_facts::Known;
 use filter_tree::{Expr, Primitive, Transport};
 use std::alloc::{AllocError, Allocator};
 
-/// What is tested in front.
+/// The tests in front.
 #[derive(Clone, Copy)]
 pub(crate) enum Guard {
     Version,
@@ -29,7 +29,7 @@ pub(crate) enum Guard {
     Ports(Transport),
 }
 
-/// What is tested in front, and the truth of the expression on the packets that fail it.
+/// The tests in front, and the truth of the expression on the packets that fail them.
 #[derive(Clone, Copy)]
 pub(crate) struct Front {
     pub(crate) guard: Guard,
@@ -71,7 +71,7 @@ fn has_only_ports<B: Allocator>(transport: Transport, expr: &Expr<B>) -> bool
     }
 }
 
-// Of the first part, where it is one with ports.
+// The transport of the first part, if it is one with ports.
 fn first_transport<B: Allocator>(expr: &Expr<B>) -> Option<Transport> {
     match expr {
         Expr::Primitive(Primitive::Port(transport, _, _)) => Some(*transport),
@@ -84,7 +84,7 @@ fn first_transport<B: Allocator>(expr: &Expr<B>) -> Option<Transport> {
     }
 }
 
-// Where the fragment is known to be the first, ports were asked for before.
+// If the fragment is known to be the first, ports were tested before.
 fn common_ports<B: Allocator>(expr: &Expr<B>, known: Known) -> Option<Transport>
     ensures only { IfSome result (λ transport. has_only_ports transport (tree_of expr.now) ≡ true) }
     ensures ip { IfSome result (λ transport. ip_of known ≢ Some false) }
@@ -114,8 +114,8 @@ fn first_guard<B: Allocator>(expr: &Expr<B>, known: Known) -> Option<Guard>
     Some(Guard::Version)
 }
 
-// Whether packets that fail the first test of the left part go on to the right one, which would test the same again. Else what the
-// left part tells of the others is known there.
+// Whether packets that fail the first test of the left part go on to the right one, which would repeat that test. If
+// they do not, the right part begins with what the left part shows of the other packets.
 fn asks_again<B: Allocator>(expr: &Expr<B>) -> bool {
     match expr {
         Expr::And(left, _) => match left.as_ref() {
@@ -128,8 +128,8 @@ fn asks_again<B: Allocator>(expr: &Expr<B>) -> bool {
     }
 }
 
-/// Tells what is to be tested in front of an expression, so that its parts do not test it again: it begins with that test, has
-/// one truth on all packets that fail it, and whether a packet passes it is not known.
+/// Returns the tests to write in front of an expression, so that its parts need not repeat them. The expression begins
+/// with these tests and has one truth on all packets that fail them, and it is not known whether a packet passes them.
 pub(crate) fn in_front<B: Allocator>(expr: &Expr<B>, known: Known) -> Option<Front>
     ensures settled { IfSome result (λ front. non_ipv4 (tree_of expr.now) ≡ Some front.truth) }
     ensures may_ask { IfSome result (λ front. MayAsk front.guard known) }

@@ -1,4 +1,4 @@
-//! Tests that come before others: each falls through where it holds, and is left out where it is known to.
+//! Tests that come before others. Each falls through if it is true, and is left out if it is known to be true.
 
 ghost use Rattle.std.specs.Prelude.{◌≡◌, ◌≢◌, ◌+◌, ◌≤◌, None, OnOk, Some, false, length, true};
 ghost use Rattle.ipv4_fields.specs.declared.header.Field.TheVariants.{Protocol};
@@ -23,7 +23,7 @@ use filter_facts::{Known, Loaded};
 use filter_tree::Transport;
 use std::alloc::{AllocError, Allocator};
 
-/// Tests whether a test has to be written: there is cause, and what is known does not tell that it is true.
+/// Tests whether a test has to be written: it is needed, and is not known to be true.
 pub(crate) fn must_ask(used: bool, told: Option<bool>) -> bool
     ensures used { result ≡ true → used ≡ true }
     ensures asked { result ≡ true → told ≢ Some true }
@@ -36,7 +36,7 @@ pub(crate) fn must_ask(used: bool, told: Option<bool>) -> bool
     }
 }
 
-// Each of these is lent what is known behind the guards before it, and adds what is known behind itself.
+// Each of these takes what is known after the guards before it, and adds what is known after itself.
 
 #[inline(always)]
 pub(crate) fn guard_ip<'a, A: Allocator>(
@@ -56,8 +56,8 @@ pub(crate) fn guard_ip<'a, A: Allocator>(
     ask_ip(code, passed, no)
 }
 
-/// Writes the test of the version. Apart from what comes before it: else a guard that has nothing to write clears room for
-/// what this needs.
+/// Writes the test of the version. Separate from `guard_ip`: otherwise a guard that writes nothing would reserve stack
+/// for this one.
 #[inline(never)]
 pub(crate) fn ask_ip<'a, A: Allocator>(
     code: &mut Code<'a, A>,
@@ -111,7 +111,7 @@ fn ask_protocol<'a, A: Allocator>(
     Ok(())
 }
 
-/// Tests whether all that comes before ports is known to hold.
+/// Tests whether every test that comes before ports is known to be true.
 pub(crate) fn leads_to_ports(known: Known, transport: Transport) -> bool
     ensures { result ≡ leads_to_ports known transport }
 {

@@ -1,4 +1,5 @@
-//! Tests of the IPv4 header: its version, its protocol, whether it is the first fragment's (RFC 791, section 3.1).
+//! Tests of the IPv4 header: its version, its protocol, and whether it belongs to the first fragment (RFC 791, section
+//! 3.1).
 
 ghost use Rattle.std.specs.Prelude.{◌+◌, ◌≤◌, None, OnOk, Some, false, length};
 ghost use Rattle.ipv4_fields.specs.declared.header.Field.TheVariants.{Protocol};
@@ -67,7 +68,7 @@ fn is_any_transport<'a, A: Allocator>(
     code.branch(Test::Equal, Operand::K(132), yes, no)
 }
 
-// The same as guards: each falls through where it holds.
+// The same as guards: each falls through if it is true.
 
 #[inline(always)]
 pub(crate) fn pass_ip<'a, A: Allocator>(
@@ -96,7 +97,7 @@ pub(crate) fn pass_protocol<'a, A: Allocator>(
     code.branch_unless(Test::Equal, Operand::K(n as u32), no)
 }
 
-/// Writes the guard that the protocol has ports: the one that is named, else TCP, UDP or SCTP.
+/// Writes the guard that the protocol has ports: the named protocol; if none is named, TCP, UDP or SCTP.
 pub(crate) fn pass_ports<'a, A: Allocator>(
     code: &mut Code<'a, A>,
     transport: Transport,

@@ -1,5 +1,5 @@
-//! The compiler of filter expressions (pcap-filter(7); docs/EXPRESSIONS.md, "Compiling"): to classic BPF programs that
-//! accept exactly the packets that the expressions mean.
+//! The compiler of filter expressions (pcap-filter(7); docs/EXPRESSIONS.md, "Compiling"). It writes classic BPF
+//! programs that accept exactly the packets on which the expressions are true.
 #![tactic(auto)]
 
 ghost use Rattle.std.specs.Prelude.{◌≡◌, ◌-◌, ◌<◌, ◌≤◌, Err, IfOk, OnOk, [], false, length, min, true, ◌↔◌};
@@ -34,10 +34,11 @@ use filter_facts::Known;
 use filter_tree::Expr;
 use std::alloc::{AllocError, Allocator};
 
-/// What a program answers where it accepts a packet: the whole of it is kept.
+/// The value that a program returns when it accepts a packet: the whole packet is kept.
 pub const ACCEPTED: u32 = 65_535;
 
-/// Up to this size the program of an expression has only jumps of tests, which reach 255 instructions behind them.
+/// Up to this size the program of an expression has only the jumps of tests, which reach the 255 instructions after the
+/// next one.
 pub const SHORT: u32 = 257;
 
 /// Law: the constants, as numbers. It runs nothing.
@@ -48,11 +49,14 @@ pub fn limits_as_numbers()
 
 /// Compiles an expression to a program in the memory of `alloc`, charged by the expression's size.
 ///
-/// On a packet the program answers `ACCEPTED` where the expression is true, and 0 where it is false or fails. Short
-/// programs have no JA: those of expressions whose size is at most `SHORT`. Fails with
-/// `CellsExceeded` exactly where the expression's cells, the most that its program uses, are above 16, else with `TooLong`
-/// exactly where its size is above 4096, both before any memory is taken, else with `OutOfMemory` where an allocation was
-/// refused. Lists of jumps, which a clone of `alloc` holds while the program is written, are given up before the answer.
+/// On a packet the program returns `ACCEPTED` if the expression is true, and 0 if it is false or fails. The program has
+/// no JA if the expression's size is at most `SHORT`.
+///
+/// Returns `CellsExceeded` if and only if the expression's cells, the most that its program uses, are above 16;
+/// otherwise `TooLong` if and only if its size is above 4096. Both are found before any memory is taken. Returns
+/// `OutOfMemory` if an allocation is refused. The lists of jumps are in memory of a clone of `alloc`, and are freed
+/// before the call returns.
+/// Why it is cloned: docs/INTERNALS.md, "The allocator of a program is cloned".
 pub fn compile<A: Allocator, B: Allocator + Clone>(
     alloc: B,
     expr: &Expr<A>,
@@ -87,7 +91,7 @@ fn within_limits<A: Allocator>(expr: &Expr<A>, size: u32) -> Result<(), CompileF
     Ok(())
 }
 
-// Up to this size an expression has fewer cells than there are.
+// Up to this size an expression uses fewer cells than exist.
 const FEW: u32 = 64;
 
 // The reason: docs/INTERNALS.md, "Cells are counted only in long expressions".
@@ -132,7 +136,7 @@ fn write_words<'a, A: Allocator, B: Allocator>(
     write_to_labels(code, expr, size, &mut yes, &mut no)
 }
 
-// Writes the code in front of the two labels, and the returns behind them.
+// Writes the code before the two labels, and the returns after them.
 fn write_to_labels<'a, A: Allocator, B: Allocator>(
     code: &mut Code<'a, A>,
     expr: &Expr<B>,

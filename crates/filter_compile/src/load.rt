@@ -1,4 +1,4 @@
-//! Loads of the headers' numbers (RFC 791, section 3.1): each is left out where A holds the number already.
+//! Loads of the headers' numbers (RFC 791, section 3.1). A load is left out if A already has the number.
 
 ghost use Rattle.std.specs.Prelude.{OnOk};
 ghost use Rattle.filter_emit.specs.body.Straight.{Extends, NeverFaults};
@@ -25,7 +25,7 @@ fn load_of(loaded: Loaded) -> Insn
     }
 }
 
-/// Writes the load of a number into A where A does not hold it. That of a port needs the header's length in X.
+/// Writes the load of a number into A, unless A already has it. The load of a port needs the header's length in X.
 #[inline(always)]
 pub(crate) fn load<'a, A: Allocator>(
     code: &mut Code<'a, A>,
@@ -40,7 +40,7 @@ pub(crate) fn load<'a, A: Allocator>(
     }
 }
 
-/// Writes the load of the header's length into X where X does not hold it.
+/// Writes the load of the header's length into X, unless X already has it.
 pub(crate) fn load_header<'a, A: Allocator>(
     code: &mut Code<'a, A>,
     held: bool,

@@ -1,5 +1,5 @@
-//! The truth of an expression on packets that are not of IPv4, where all of them have the same; and whether its first part is the
-//! primitive `ip`.
+//! The truth of an expression on packets that are not IPv4, if it is the same on all of them; and whether its first
+//! part is the primitive `ip`.
 
 ghost use Rattle.std.specs.Prelude.{◌≡◌};
 ghost use Rattle.filter_tree.specs.Truth.{used_by};
@@ -34,7 +34,7 @@ fn opposite(told: Option<bool>) -> Option<bool>
     }
 }
 
-/// The right part counts where the left one leads on to it.
+/// The right part counts only if the left one leads to it.
 pub(crate) fn non_ipv4<B: Allocator>(expr: &Expr<B>) -> Option<bool>
     ensures { result ≡ non_ipv4 (tree_of expr.now) }
 {
@@ -53,7 +53,7 @@ pub(crate) fn non_ipv4<B: Allocator>(expr: &Expr<B>) -> Option<bool>
     }
 }
 
-/// Where the version is known, `ip` still takes a jump. So it saves less than the test in front takes.
+/// If the version is known, `ip` still takes a jump, so it saves less than the test in front costs.
 pub(crate) fn begins_with_ip<B: Allocator>(expr: &Expr<B>) -> bool
     ensures { result ≡ begins_with_ip (tree_of expr.now) }
 {

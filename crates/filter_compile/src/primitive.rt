@@ -90,7 +90,7 @@ fn addresses<'a, A: Allocator>(
     })
 }
 
-/// What is tested before ports.
+/// Writes the tests that come before ports.
 pub(crate) fn guard_ports<'a, A: Allocator>(
     code: &mut Code<'a, A>,
     transport: Transport,
@@ -137,7 +137,7 @@ fn ports<'a, A: Allocator>(
     })
 }
 
-// The packet's number of bytes is tested.
+// Writes a test of the packet's number of bytes.
 fn bytes<'a, A: Allocator>(
     code: &mut Code<'a, A>,
     test: Test,
@@ -152,7 +152,7 @@ fn bytes<'a, A: Allocator>(
     code.branch(test, Operand::K(n), yes, no)
 }
 
-// Apart from the recursion, whose every level would clear room for what it needs.
+// Separate from the recursion, since each of its levels would reserve stack for this function.
 #[inline(never)]
 pub(crate) fn primitive<'a, A: Allocator>(
     code: &mut Code<'a, A>,

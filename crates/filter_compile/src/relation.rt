@@ -1,4 +1,4 @@
-//! The code of a relation: what it tests of the packet before its accessors, its two sides, and their comparison.
+//! The code of a relation: the tests before its accessors, its two sides, and their comparison.
 
 ghost use Rattle.std.specs.Prelude.{◌≡◌, ◌+◌, ◌≤◌, IfOk, OnOk, Option, length, List, ℕ};
 ghost use Rattle.bpf_verify.specs.declared.TheConstants.{CELLS, MAX_INSTRUCTIONS};
@@ -24,7 +24,7 @@ use filter_facts::Known;
 use filter_tree::{Accesses, Arith, Relation};
 use std::alloc::{AllocError, Allocator};
 
-// What is tested before accessors of these protocols.
+// Writes the tests that come before accessors of these protocols.
 fn guards<'a, A: Allocator>(
     code: &mut Code<'a, A>,
     used: Accesses,
@@ -41,7 +41,7 @@ fn guards<'a, A: Allocator>(
     guard_first_fragment(code, used.any_transport(), passed, no)
 }
 
-// A is the left value, and the operand the right one.
+// A has the left value; the operand is the right one.
 fn compare<'a, A: Allocator>(
     code: &mut Code<'a, A>,
     relation: Relation,
@@ -62,7 +62,7 @@ fn compare<'a, A: Allocator>(
     }
 }
 
-// A is the left value. Tells whether X still holds the header's length.
+// A has the left value. Returns whether X still has the header's length.
 fn compare_with<'a, A: Allocator, B: Allocator>(
     code: &mut Code<'a, A>,
     relation: Relation,
@@ -93,7 +93,7 @@ fn compare_with<'a, A: Allocator, B: Allocator>(
     }
 }
 
-// Apart from the recursion, whose every level would clear room for what it needs.
+// Separate from the recursion, since each of its levels would reserve stack for this function.
 // The reason: docs/INTERNALS.md, "Inlining is by count".
 #[inline(never)]
 pub(crate) fn relation<'a, A: Allocator, B: Allocator>(

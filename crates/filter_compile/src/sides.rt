@@ -1,4 +1,4 @@
-//! What is known behind a part of a program.
+//! The facts known after a part of a program.
 
 ghost use Rattle.std.specs.Prelude.{◌≡◌, ◌+◌, ◌≤◌, IfOk, List, None, Option, length, ℕ};
 ghost use Rattle.bpf_verify.specs.declared.TheConstants.{MAX_INSTRUCTIONS};
@@ -9,7 +9,7 @@ use filter_emit::{Code, Label};
 use filter_facts::Known;
 use std::alloc::{AllocError, Allocator};
 
-/// What is known where a test is true, and where it is false.
+/// The facts known if a test is true, and if it is false.
 #[derive(Clone, Copy)]
 pub(crate) struct Sides {
     pub(crate) yes: Known,
@@ -29,7 +29,7 @@ impl Sides {
     }
 }
 
-/// Writes the code of a test whose truth is known: it goes to one label always.
+/// Writes the code of a test whose truth is known: it always goes to one label.
 pub(crate) fn settled<'a, A: Allocator>(
     code: &mut Code<'a, A>,
     known: Known,
@@ -42,7 +42,7 @@ pub(crate) fn settled<'a, A: Allocator>(
     Ok(Sides::both(known))
 }
 
-/// What is known behind guards, and where one of them goes to no, `None` where none ever does.
+/// The facts known after guards, and the facts known at no after one of them fails: `None` if none ever does.
 /// The reason: docs/INTERNALS.md, "Guards cost little if they write nothing".
 #[derive(Clone, Copy)]
 pub(crate) struct Passed {
@@ -62,7 +62,7 @@ impl Passed {
         }
     }
 
-    /// Adds a guard: from here on what is known behind it, and where it goes to no.
+    /// Adds a guard: `on` is known after it, and `no` is known at no if it fails.
     #[inline(always)]
     pub(crate) fn learn(&mut self, on: Known, no: Known)
         ensures on { self.new.on ≡ on }
@@ -74,7 +74,7 @@ impl Passed {
         self.no = Some(no);
     }
 
-    /// Where the guard goes to no, or a test behind it does.
+    /// Returns the facts known at no, which is reached from one of the guards or from a later test.
     pub(crate) fn or_no(self, no: Known) -> Known
         ensures of_self { (packet : List ℕ) (a x : ℕ) → HoldsWhere self.no packet a x → Holds result packet a x }
         ensures of_no { (packet : List ℕ) (a x : ℕ) → Holds no packet a x → Holds result packet a x }

@@ -1,4 +1,4 @@
--- Code with fixups: words of which some jumps are filled in later.
+-- Code with fixups: words of which some jumps are patched later.
 use Rattle.std.specs.Prelude.{◌≡◌, ◌+◌, ◌++◌, ◌<◌, ◌≤◌, ◌⊎◌, ◌∷◌, [], Contains, List, None, Ok, Option, Some, length, ℕ}
 use Rattle.bpf_insn.specs.Word.{instruction_of}
 use Rattle.bpf_insn.specs.declared.instruction.Insn.{Insn}
@@ -9,19 +9,19 @@ use Rattle.filter_emit.specs.declared.fixup.Fixup.{Fixup}
 use Rattle.filter_emit.specs.declared.fixup.Side.{Side}
 use Rattle.filter_emit.specs.declared.fixup.Side.TheVariants.{Always, WhenFalse, WhenTrue}
 
--- what a contract sees of a label: the jumps that are to lead there, and the last place that it can be
+-- what a contract sees of a label: the jumps that will lead there, and the last place that it can be
 pub record LabelValue : Type 0 where
   pub fixups : List Fixup
   pub by : ℕ
 
--- how many words a jump of an instruction skips
+-- the number of words that a jump of an instruction skips
 abbrev pub offset_of : Side → Insn → Option ℕ
 offset_of WhenTrue (JumpIf test operand skips) = Some skips.jt
 offset_of WhenFalse (JumpIf test operand skips) = Some skips.jf
 offset_of Always (Jump k) = Some k
 offset_of _ _ = None
 
--- an instruction but for how far it jumps
+-- an instruction without the lengths of its jumps
 abbrev pub shape_of : Insn → Insn
 shape_of (JumpIf test operand skips) = JumpIf test operand (offsets 0 0)
 shape_of (Jump k) = Jump 0
@@ -35,7 +35,7 @@ LeadsTo program place side to = (insn : Insn) × (k : ℕ) × IsAt program place
 abbrev pub AllLeadTo : List Fixup → ℕ → List ℕ → Type 0
 AllLeadTo fixups to program = (fixup : Fixup) → Contains fixups fixup → LeadsTo program fixup.place fixup.side to
 
--- the instruction of the code at pc stands in the program, but for its open jumps
+-- the instruction of the code at pc is in the program, except for its open jumps
 abbrev pub StandsAt : (ℕ → Side → Type 0) → List ℕ → List ℕ → ℕ → Type 0
 StandsAt waits code program pc = (insn : Insn) → IsAt code pc insn
     → (later : Insn) × IsAt program pc later × (shape_of later ≡ shape_of insn) × ((side : Side) → waits pc side ⊎ (offset_of side later ≡ offset_of side insn))
@@ -47,7 +47,7 @@ Stands waits from until code program = (pc : ℕ) → from ≤ pc → pc < until
 abbrev pub IsFixup : List Fixup → ℕ → Side → Type 0
 IsFixup fixups place side = Contains fixups (record { place = place; side = side })
 
--- the program has the code of these places with its fixups filled
+-- the program has the code of these places with its fixups patched
 pub record IsFilled (from until : ℕ) (code : List ℕ) (ys ns : List Fixup) (on_yes on_no : ℕ) (program : List ℕ) : Type 0 where
   pub stands : Stands (λ place side. IsFixup ys place side ⊎ IsFixup ns place side) from until code program
   pub yes_filled : AllLeadTo ys on_yes program
@@ -74,17 +74,17 @@ CanReach place _ to = to ≤ place + 256
 abbrev pub AreOpen : List Fixup → ℕ → List ℕ → Type 0
 AreOpen fixups by code = (fixup : Fixup) → Contains fixups fixup → HasJump code fixup.place fixup.side × CanReach fixup.place fixup.side by
 
--- the fixups of the code are filled with its end, and all else stands
+-- the fixups of the code are patched with its end, and everything else is unchanged
 pub record IsBound (fixups : List Fixup) (code bound : List ℕ) : Type 0 where
   pub same_length : length bound ≡ length code
   pub stands : Stands (λ place side. IsFixup fixups place side) 0 (length code) code bound
   pub filled : AllLeadTo fixups (length code) bound
 
--- words were written behind
+-- words were written after the others
 abbrev pub IsLonger : List ℕ → List ℕ → Type 0
 IsLonger code longer = (pc : ℕ) (insn : Insn) → IsAt code pc insn → IsAt longer pc insn
 
--- one instruction more stands at the end
+-- one more instruction is at the end
 abbrev pub IsAppended : Insn → List ℕ → List ℕ → Type 0
 IsAppended insn before after = (word : ℕ) × (instruction_of word ≡ Ok insn) × (after ≡ before ++ word ∷ [])
 

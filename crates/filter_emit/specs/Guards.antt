@@ -1,4 +1,4 @@
--- Guards: what a function that writes a test promises where the code goes on behind it.
+-- Guards: the promise of a function that writes a test after which the code goes on.
 use Rattle.std.specs.Prelude.{◌≡◌, ◌++◌, ◌≤◌, [], List, length, ℕ}
 use Rattle.filter_emit.specs.declared.fixup.Fixup.{Fixup}
 use Rattle.filter_emit.specs.Fixups.{AreOpen, IsLonger, LabelValue}
@@ -8,7 +8,7 @@ use Rattle.filter_emit.specs.Pieces.{HasFarJumpsOnly, IsPart, Meaning, Targets}
 abbrev pub Next : Targets
 Next until on_yes = on_yes ≡ until
 
--- a guard falls through to the words behind it, or goes to the no target
+-- a guard falls through to the words after it, or goes to the no target
 abbrev pub IsGuard : Meaning → ℕ → ℕ → ℕ → List ℕ → List Fixup → Type 0
 IsGuard means weight from until code ns = IsPart Next means weight from until code [] ns
 

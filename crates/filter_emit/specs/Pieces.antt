@@ -1,4 +1,4 @@
--- Pieces of a program with fixups: what they mean however their fixups are filled, and what a function that writes one ensures.
+-- Pieces of a program with fixups: their meaning however the fixups are patched, and what a function that writes one ensures.
 use Rattle.std.specs.Prelude.{◌≡◌, ◌+◌, ◌++◌, ◌<◌, ◌≤◌, if◌then◌else◌, List, drop, length, nat_lt, ℕ}
 use Rattle.bpf_insn.specs.declared.instruction.Insn.{Insn}
 use Rattle.bpf_insn.specs.declared.instruction.Insn.TheVariants.{Jump}
@@ -7,11 +7,11 @@ use Rattle.bpf_verify.specs.Path.{IsAt}
 use Rattle.filter_emit.specs.declared.fixup.Fixup.{Fixup}
 use Rattle.filter_emit.specs.Fixups.{AreApart, AreOpen, AreWithin, IsFilled, IsLonger, LabelValue}
 
--- what the words at the yes target, at the no target and at the beginning of a piece have to do with each other
+-- the relation between the words at the yes target, at the no target and at the beginning of a piece
 abbrev pub Meaning : Type 1
 Meaning = List ℕ → List ℕ → List ℕ → Type 0
 
--- where the yes target of code that ends at a place can be
+-- the places at which the yes target of code that ends at a place can be
 abbrev pub Targets : Type 1
 Targets = ℕ → ℕ → Type 0
 
@@ -23,7 +23,7 @@ abbrev pub IsJump : Insn → Type 0
 IsJump (Jump k) = Unit {0}
 IsJump insn = ⊥
 
--- how many words more a test at a place takes for a label: one where the label can be too far for a jump of the test
+-- the number of words more that a test at a place takes for a label: one if the label can be too far for a jump of the test
 abbrev pub far_words : ℕ → ℕ → ℕ
 far_words place by = if nat_lt (place + 256) by then 1 else 0
 
@@ -39,11 +39,11 @@ pub record IsFarFrom (last from pc : ℕ) : Type 0 where
   pub beside : pc ≤ place + 2
   pub far : place + 256 < last
 
--- a JA stands only where the last place is far
+-- a JA is only at places from which the last place is far
 abbrev pub HasFarJumpsOnly : ℕ → ℕ → ℕ → List ℕ → Type 0
 HasFarJumpsOnly last from until code = AreInstructions (λ pc insn. IsJump insn → IsFarFrom last from pc) from until code
 
--- a part of the code: however its fixups are filled, it means this, and no place of it has a fault
+-- a part of the code: however its fixups are patched, it means this, and no place of it has a fault
 pub record IsPart (targets : Targets) (means : Meaning) (weight from until : ℕ) (code : List ℕ) (ys ns : List Fixup) : Type 0 where
   pub forward : from ≤ until
   pub light : until ≤ from + weight
@@ -57,7 +57,7 @@ pub record IsPart (targets : Targets) (means : Meaning) (weight from until : ℕ
       (program : List ℕ) (on_yes on_no : ℕ) → targets until on_yes → until ≤ on_no → on_yes < length program → on_no < length program
       → IsFilled from until code ys ns on_yes on_no program → (pc : ℕ) → from ≤ pc → pc < until → IsFaultless program pc
 
--- a piece goes to one of two targets behind it
+-- a piece goes to one of two targets after it
 abbrev pub IsPiece : Meaning → ℕ → ℕ → ℕ → List ℕ → List Fixup → List Fixup → Type 0
 IsPiece means weight from until code ys ns = IsPart Behind means weight from until code ys ns
 

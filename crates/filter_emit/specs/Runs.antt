@@ -1,4 +1,4 @@
--- What a run does where it comes to words of a program, and which cells it may load there.
+-- The effect of a run that comes to words of a program, and the cells that it may load there.
 use Rattle.std.specs.Prelude.{◌≡◌, ◌++◌, ◌<◌, ◌⊎◌, ◌∷◌, [], List, Ok, ℕ}
 use Rattle.bpf_insn.specs.declared.instruction.Insn.{Insn}
 use Rattle.bpf_insn.specs.Word.{instruction_of}
@@ -6,11 +6,11 @@ use Rattle.bpf_verify.specs.Path.{IsPath, IsStoredOn, LoadsAt}
 use Rattle.bpf_machine.specs.Meaning.{Cells, mean}
 use Rattle.filter_emit.specs.Pieces.{Meaning}
 
--- one instruction more stands in front
+-- one more instruction is in front
 abbrev pub IsPushed : Insn → List ℕ → List ℕ → Type 0
 IsPushed insn before after = (word : ℕ) × (instruction_of word ≡ Ok insn) × (after ≡ word ∷ before)
 
--- where the cells below d were stored, each load on a path from the first word is of a cell that was stored
+-- if the cells below d were stored, each load on a path from the first word is of a cell that was stored
 abbrev pub LoadsStored : ℕ → List ℕ → Type 0
 LoadsStored d words = (pc cell : ℕ) → LoadsAt words pc cell → (earlier : List ℕ) → IsPath words (earlier ++ pc ∷ []) → (cell < d) ⊎ IsStoredOn words earlier cell
 

@@ -1,4 +1,4 @@
-//! The words of a program, as far as it is written.
+//! The words of a program that is being written.
 
 ghost use Rattle.std.specs.Prelude.{◌≡◌, ◌<◌, ◌≤◌, ◌+◌, ◌^◌, ◌++◌, ◌∷◌, Contains, IfOk, OnOk, [], false, length, true};
 ghost use Rattle.bpf_insn.specs.declared.instruction.Insn.TheVariants.{Jump};
@@ -19,7 +19,7 @@ use bpf_insn::{Insn, Offsets, Operand, Test};
 use std::alloc::{AllocError, Allocator};
 use std::marker::Model;
 
-/// The words of a program, as far as it is written, and where the lists of its labels are allocated.
+/// The words of a program that is being written, and the allocator of the lists of its labels.
 ///
 /// Contracts see it as the list of its words. A place is the number of words before it. After a call that failed, nothing is
 /// known of the code and of the labels that were passed.
@@ -38,8 +38,8 @@ impl<'a, A: Allocator> Model for Code<'a, A> {
 }
 
 impl<'a, A: Allocator> Code<'a, A> {
-    /// A program with no word yet. `room` is a hint of how many words it will have; the lists of its labels are allocated in
-    /// `lists`. Fails where the allocation is refused.
+    /// Returns a program without words. `room` is a hint of how many words it will have; the lists of its labels are
+    /// allocated in `lists`. Fails if the allocation is refused.
     pub fn with_room(alloc: A, lists: &'a A, room: usize) -> Result<Code<'a, A>, AllocError>
         ensures empty { IfOk result (λ code. code ≡ []) }
     {
@@ -49,7 +49,7 @@ impl<'a, A: Allocator> Code<'a, A> {
         })
     }
 
-    /// How many words it has.
+    /// Returns the number of its words.
     pub fn len(&self) -> u32
         requires room { length self.now ≤ MAX_INSTRUCTIONS }
         ensures length { result ≡ length self.now }
@@ -57,7 +57,7 @@ impl<'a, A: Allocator> Code<'a, A> {
         self.words.len() as u32
     }
 
-    /// A label without fixups, to be bound at the place `by` or before.
+    /// Returns a label without fixups, to be bound at the place `by` or before.
     pub fn label(&self, by: u32) -> Label<'a, A>
         ensures empty { result.fixups ≡ [] }
         ensures by { result.by ≡ by }
@@ -65,7 +65,7 @@ impl<'a, A: Allocator> Code<'a, A> {
         Label::new(self.lists, by)
     }
 
-    /// Writes an instruction. Fails where an allocation is refused.
+    /// Writes an instruction. Fails if an allocation is refused.
     #[inline(always)]
     pub fn push(&mut self, insn: Insn) -> Result<(), AllocError>
         ensures appended { OnOk result (IsAppended insn self.old self.new) }
@@ -74,7 +74,7 @@ impl<'a, A: Allocator> Code<'a, A> {
         Ok(())
     }
 
-    /// Binds the label to the end of the code: each of its fixups is filled in, so that each of its jumps goes there.
+    /// Binds the label to the end of the code: patches each of its fixups, so that each of its jumps goes there.
     pub fn bind(&mut self, label: &Label<'a, A>)
         requires open { AreOpen label.now.fixups label.now.by self.old }
         requires by { length self.old ≤ label.now.by }
@@ -160,7 +160,7 @@ impl<'a, A: Allocator> Code<'a, A> {
         if is_far(place, label.by()) {
             self.jump(label)?;
         } else {
-            // The test goes there if A is 0, and if not.
+            // Both jumps of the test go to the label, whatever A is.
             self.push(Insn::JumpIf(Test::Equal, Operand::K(0), Offsets { jt: 0, jf: 0 }))?;
             label.add(place, Side::WhenTrue)?;
             label.add(place, Side::WhenFalse)?;
@@ -168,7 +168,8 @@ impl<'a, A: Allocator> Code<'a, A> {
         Ok(())
     }
 
-    // Adds a fixup to the label: of one side of the test at the place, or if the label is far, of a JA that this side leads to.
+    // Adds a fixup to the label: for one side of the test at the place, or for a JA that this side leads to if the
+    // label is far.
     #[inline(always)]
     fn note(
         &mut self,
@@ -201,7 +202,7 @@ impl<'a, A: Allocator> Code<'a, A> {
         label.add(place, Side::Always)
     }
 
-    /// Gives the words.
+    /// Returns the words.
     pub fn into_words(self) -> Vec<u64, A>
         ensures words { result.items ≡ self.entry }
     {
@@ -219,7 +220,7 @@ fn is_far(place: u32, by: u32) -> bool
     by > place + 256
 }
 
-// Fills in one fixup: the bits of its jump in the word.
+// Patches one fixup: the bits of its jump in the word.
 fn fill<A: Allocator>(words: &mut Vec<u64, A>, fixup: Fixup, to: usize)
     requires there { HasJump words.old.items fixup.place fixup.side }
     requires within { fixup.place < length words.old.items }
@@ -266,7 +267,7 @@ fn with_k(word: u64, k: u64) -> u64
     word / (1 << 32) * (1 << 32) + k
 }
 
-// Fills in fixups with the end of the code.
+// Patches fixups with the end of the code.
 fn fill_all<A: Allocator>(words: &mut Vec<u64, A>, fixups: &[Fixup])
     requires there { (fixup : FixupValue) → Contains fixups.now fixup → HasJump words.old.items fixup.place fixup.side }
     requires within { (fixup : FixupValue) → Contains fixups.now fixup → fixup.place < length words.old.items }

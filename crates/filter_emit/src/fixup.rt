@@ -1,22 +1,22 @@
-//! Jumps whose targets are still to come.
+//! Jumps whose targets are not yet known.
 
-/// Which jump of an instruction.
+/// One of the jumps of an instruction.
 #[derive(Clone, Copy, Debug, Default, PartialEq, Eq)]
 pub enum Side {
-    /// Of a test, where it holds.
+    /// The jump of a test that is true.
     #[default]
     WhenTrue,
-    /// Of a test, where it does not hold.
+    /// The jump of a test that is false.
     WhenFalse,
-    /// Of a jump.
+    /// The jump of a JA.
     Always,
 }
 
-/// A jump of the instruction at a place, which is to be filled in.
+/// A jump of the instruction at a place, which is still to be patched.
 #[derive(Clone, Copy, Debug, Default, PartialEq, Eq)]
 pub struct Fixup {
     /// The place of the instruction, counted from the program's first.
     pub place: u32,
-    /// Which of its jumps.
+    /// The jump to patch.
     pub side: Side,
 }

@@ -1,4 +1,4 @@
-//! Labels: where a part of a program goes on.
+//! Labels: later places of a program.
 
 ghost use Rattle.std.specs.Prelude.{◌≡◌, ◌++◌, ◌∷◌, [], OnOk};
 ghost use Rattle.filter_emit.specs.Fixups.{fixup_at};
@@ -8,7 +8,7 @@ use smallvec::SmallVec;
 use std::alloc::{AllocError, Allocator};
 use std::marker::Model;
 
-/// A place after the code that is written: the jumps that are to lead there, and the last place that it can be.
+/// A place after the code written so far: the jumps that will lead there, and the last place that it can be.
 ///
 /// Contracts see it as a `LabelValue`: its list of fixups, and `by`.
 /// The reason: docs/INTERNALS.md, "A program is compiled forward".

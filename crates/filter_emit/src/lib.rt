@@ -1,5 +1,5 @@
 //! A classic BPF program that is written from its first instruction to its last. A jump is written before its target is
-//! known: it is a fixup of the label that it goes to, and is filled in when the label is bound.
+//! known: it is a fixup of the label that it goes to, and is patched when the label is bound.
 #![tactic(auto)]
 
 mod code;

@@ -1,4 +1,4 @@
--- What the facts say of a packet, of A and of X. Each says that the packet has the bytes, and what they are or are not.
+-- The meaning of the facts about a packet, A and X. Each fact says that the packet has the bytes, and what they are or are not.
 use Rattle.std.specs.Prelude.{◌≡◌, ◌≢◌, ◌*◌, List, None, Option, Some, Bool, false, true, ℕ}
 use Rattle.ipv4_fields.specs.declared.header.Field.TheVariants as field_is
 use Rattle.ipv4_fields.specs.Field.{field_of, ihl_of}
@@ -27,12 +27,12 @@ IsProtocol Any packet = Unit {0}
 IsProtocol (Is n) packet = field_of field_is.Protocol packet ≡ Some n
 IsProtocol (IsNot n) packet = (m : ℕ) × (field_of field_is.Protocol packet ≡ Some m) × (m ≢ n)
 
--- it is one that has ports, where that is known
+-- it is one that has ports, if that is known
 abbrev pub HasPorts : Bool → List ℕ → Type 0
 HasPorts false packet = Unit {0}
 HasPorts true packet = tested (has_ports Unnamed) (field_of field_is.Protocol packet) ≡ Yes
 
--- it has the beginning of the datagram, where that is known
+-- it has the beginning of the datagram, if that is known
 abbrev pub IsFirst : Bool → List ℕ → Type 0
 IsFirst false packet = Unit {0}
 IsFirst true packet = is_first_fragment packet ≡ Yes
@@ -43,12 +43,12 @@ IsHeader header_is.Any packet = Unit {0}
 IsHeader header_is.NotIpv4 packet = is_ip packet ≡ No
 IsHeader (header_is.Ipv4 protocol ports first) packet = (is_ip packet ≡ Yes) × IsProtocol protocol packet × HasPorts ports packet × IsFirst first packet
 
--- X is as known: it holds the length of the packet's IPv4 header, or nothing is known of it
+-- X is as known: it has the length of the packet's IPv4 header, or nothing is known of it
 abbrev pub Knows : Bool → List ℕ → ℕ → Type 0
 Knows false packet x = Unit {0}
 Knows true packet x = (ihl : ℕ) × (ihl_of packet ≡ Some ihl) × (x ≡ 4 * ihl)
 
--- what is loaded of a packet, none where it lacks a byte of it
+-- the number that is loaded of a packet, none if the packet lacks a byte of it
 abbrev pub loaded_of : Loaded → List ℕ → Option ℕ
 loaded_of loaded_is.Protocol packet = field_of field_is.Protocol packet
 loaded_of loaded_is.Source packet = field_of field_is.Source packet
@@ -56,7 +56,7 @@ loaded_of loaded_is.Destination packet = field_of field_is.Destination packet
 loaded_of loaded_is.SourcePort packet = field_of field_is.SourcePort packet
 loaded_of loaded_is.DestinationPort packet = field_of field_is.DestinationPort packet
 
--- A is as known: it holds what was loaded of the packet, or nothing is known of it
+-- A is as known: it has the number that was loaded of the packet, or nothing is known of it
 abbrev pub IsInA : Option Loaded → List ℕ → ℕ → Type 0
 IsInA None packet a = Unit {0}
 IsInA (Some loaded) packet a = loaded_of loaded packet ≡ Some a

@@ -1,5 +1,5 @@
--- What the facts tell of each test, none where it has to be made. Protocol and fragment are known only of a packet that
--- is known to be one of IPv4, and of the fragment only that it is the first.
+-- The outcome of each test by the facts, none if the test has to be made. Protocol and fragment are known only of a packet that
+-- is known to be IPv4; of the fragment it is only known that it is the first.
 use Rattle.std.specs.Prelude.{◌==◌, ◌≢◌, ◌&&◌, ◌||◌, if◌then◌else◌, Bool, None, Option, Some, false, true, ℕ}
 use Rattle.filter_tree.specs.declared.arithmetic.Protocol.{Protocol as DataProtocol}
 use Rattle.filter_tree.specs.declared.arithmetic.Protocol.TheVariants.{Icmp as IcmpData, Tcp as TcpData, Udp as UdpData}
@@ -22,7 +22,7 @@ agreed (Some true) (Some true) = Some true
 agreed (Some false) (Some false) = Some false
 agreed _ _ = None
 
--- whether the packet is one of IPv4
+-- whether the packet is IPv4
 abbrev pub ip_told : Header → Option Bool
 ip_told header_is.Any = None
 ip_told header_is.NotIpv4 = Some false
@@ -66,7 +66,7 @@ ports_in (header_is.Ipv4 protocol ports first) = ports_told protocol ports
 abbrev pub IsNamed : Transport → Type 0
 IsNamed transport = transport ≢ Unnamed
 
--- whether it is the one that is named, else TCP, UDP or SCTP
+-- whether it is the named one or, if none is named, TCP, UDP or SCTP
 abbrev pub named_told : Header → Transport → Option Bool
 named_told header Tcp = number_told (protocol_in header) 6
 named_told header Udp = number_told (protocol_in header) 17
@@ -87,11 +87,11 @@ knows_number known = is_number (protocol_in known.header)
 abbrev pub first_fragment_of : Known → Bool
 first_fragment_of known = first_in known.header
 
--- whether X is known to hold the length of the header
+-- whether X is known to have the length of the header
 abbrev pub header_in_x_of : Known → Bool
 header_in_x_of known = known.header_in_x
 
--- what A is known to hold, if anything
+-- the number that A is known to have, if any
 abbrev pub in_a_of : Known → Option Loaded
 in_a_of known = known.in_a
 

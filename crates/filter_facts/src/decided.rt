@@ -1,4 +1,4 @@
-//! Which primitives and relations are known to be false before anything is tested.
+//! The primitives and relations that are known to be false before anything is tested.
 
 ghost use Rattle.std.specs.Prelude.{◌≡◌, IsTrue, List, ℕ};
 ghost use Rattle.filter_tree.specs.declared.truth.Truth.TheVariants.{No};

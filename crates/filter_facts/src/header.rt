@@ -1,21 +1,21 @@
-//! What is known of a packet's IPv4 header (RFC 791, section 3.1).
+//! The facts known about a packet's IPv4 header (RFC 791, section 3.1).
 
 ghost use Rattle.std.specs.Prelude.{◌≡◌, ◌&&◌, Bool, List, Some, false, true, ℕ};
 ghost use Rattle.filter_facts.specs.Known.{IsHeader, IsProtocol};
 ghost use Rattle.filter_facts.specs.Told.{agreed, first_in, ip_told, is_number, number_told, ports_in, ports_told, protocol_in};
 
-/// What is known of the protocol's number.
+/// The facts known about the protocol's number.
 #[derive(Clone, Copy, Debug, PartialEq, Eq)]
 pub(crate) enum Protocol {
     /// Nothing, not even that the packet has the byte.
     Any,
-    /// It is this one.
+    /// It is this number.
     Is(u8),
-    /// It is another one than this.
+    /// It is another number.
     IsNot(u8),
 }
 
-/// What is known of the header. Protocol and fragment are known only of a packet that is known to be one of IPv4.
+/// The facts known about the header. Protocol and fragment are known only if the packet is known to be IPv4.
 #[derive(Clone, Copy, Debug, PartialEq, Eq)]
 pub(crate) enum Header {
     /// Nothing.
@@ -43,7 +43,7 @@ fn join_protocols(one: Protocol, other: Protocol) -> Protocol
     }
 }
 
-/// Tells whether the protocol has ports, `None` where that is not known.
+/// Returns whether the protocol has ports, `None` if that is not known.
 pub(crate) fn ports(protocol: Protocol, with_ports: bool) -> Option<bool>
     ensures { result ≡ ports_told protocol with_ports }
 {

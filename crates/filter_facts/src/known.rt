@@ -1,4 +1,4 @@
-//! What is known where a part of a program begins: how facts are joined, and what they tell.
+//! The facts known before a part of a program, their join, and what follows from them.
 
 ghost use Rattle.std.specs.Prelude.{◌≡◌, ◌&&◌, IsTrue, List, Some, false, true, ℕ};
 ghost use Rattle.ipv4_fields.specs.declared.header.Field.TheVariants.{Protocol as ProtocolField};
@@ -15,7 +15,7 @@ use crate::header::{Header, Protocol, join_headers, ports};
 use crate::load::{Loaded, join_loads};
 use filter_tree::Transport;
 
-/// What is known of a packet, whether X holds the length of its IPv4 header, and what A holds.
+/// The facts known about a packet, about X (whether it has the length of the IPv4 header) and about A.
 /// The reason: docs/INTERNALS.md, "What is known is a few facts".
 #[derive(Clone, Copy, Debug, PartialEq, Eq)]
 pub struct Known {
@@ -25,7 +25,7 @@ pub struct Known {
 }
 
 impl Known {
-    /// Knows nothing.
+    /// Returns no facts.
     pub fn nothing() -> Known
         ensures holds { (packet : List ℕ) (a x : ℕ) → Holds result packet a x }
     {
@@ -36,8 +36,9 @@ impl Known {
         }
     }
 
-    /// Knows what holds where one or the other does: where two ways meet. Of two protocols none is known, but that both
-    /// have ports is; a number that neither is stays known, unless both are known by theirs.
+    /// Returns the facts known after two branches join: those that hold on both. Two different protocols join to no
+    /// protocol, but if both are known to have ports, that stays known. A number that is excluded on both branches
+    /// stays excluded, unless both branches know their protocol by number.
     pub fn join(self, other: Known) -> Known
         ensures of_self { (packet : List ℕ) (a x : ℕ) → Holds self packet a x → Holds result packet a x }
         ensures of_other { (packet : List ℕ) (a x : ℕ) → Holds other packet a x → Holds result packet a x }
@@ -57,7 +58,7 @@ impl Known {
         }
     }
 
-    /// Tells whether the packet is one of IPv4, `None` where that is not known.
+    /// Returns whether the packet is IPv4, `None` if that is not known.
     pub fn ip(self) -> Option<bool>
         ensures exact { result ≡ ip_of self }
         ensures known { (packet : List ℕ) (a x : ℕ) → Holds self packet a x → Settles result (is_ip packet) }
@@ -69,8 +70,8 @@ impl Known {
         }
     }
 
-    /// Tells whether the protocol has this number, `None` where that is not known. It is known only where the packet is
-    /// known to be one of IPv4.
+    /// Returns whether the protocol has this number, `None` if that is not known. It is known only if the packet is
+    /// known to be IPv4.
     pub fn protocol(self, n: u8) -> Option<bool>
         ensures exact { result ≡ protocol_of self n }
         ensures known { (packet : List ℕ) (a x : ℕ) → Holds self packet a x → Settles result (is_protocol n packet) }
@@ -82,8 +83,8 @@ impl Known {
         }
     }
 
-    /// Tells whether the protocol is the one that is named, else TCP, UDP or SCTP; `None` where that is not known. It is
-    /// known only where the packet is known to be one of IPv4.
+    /// Returns whether the protocol is the named one or, if none is named, TCP, UDP or SCTP; `None` if that is not
+    /// known. It is known only if the packet is known to be IPv4.
     pub fn transport(self, transport: Transport) -> Option<bool>
         ensures exact { result ≡ transport_of self transport }
         ensures known { (packet : List ℕ) (a x : ℕ) → Holds self packet a x → Settles result (tested (has_ports transport) (field_of ProtocolField packet)) }
@@ -105,8 +106,8 @@ impl Known {
         }
     }
 
-    /// Tests whether the packet is known to have the beginning of the datagram. It is only where the packet is known to be
-    /// one of IPv4.
+    /// Tests whether the packet is known to have the beginning of the datagram. This is known only if the packet is
+    /// known to be IPv4.
     pub fn first_fragment(self) -> bool
         ensures exact { result ≡ first_fragment_of self }
         ensures known { IsTrue result → (packet : List ℕ) (a x : ℕ) → Holds self packet a x → is_first_fragment packet ≡ Yes }
@@ -117,7 +118,7 @@ impl Known {
         }
     }
 
-    /// Tests whether X is known to hold the length of the header.
+    /// Tests whether X is known to have the length of the header.
     pub fn header_in_x(self) -> bool
         ensures exact { result ≡ header_in_x_of self }
         ensures known { IsTrue result → (packet : List ℕ) (a x : ℕ) → Holds self packet a x → Knows true packet x }
@@ -125,7 +126,7 @@ impl Known {
         self.header_in_x
     }
 
-    /// Tells what A is known to hold, `None` where that is not known.
+    /// Returns the number that A is known to have, `None` if that is not known.
     pub fn in_a(self) -> Option<Loaded>
         ensures exact { result ≡ in_a_of self }
         ensures known { (packet : List ℕ) (a x : ℕ) → Holds self packet a x → IsInA result packet a }

@@ -1,7 +1,7 @@
-//! What a filter compiler knows of a packet, of A and of X, where a part of a program begins.
+//! The facts that a filter compiler knows about a packet, about A and about X before a part of a program.
 //!
-//! A fact says that a load was made and what it gave: a test whose truth follows from the facts can be left out, and a
-//! truth that fails follows from none.
+//! A fact says that a load was made and which number it loaded. A test whose truth follows from the facts can be left
+//! out; no facts imply a truth that fails.
 #![tactic(auto)]
 
 mod decided;

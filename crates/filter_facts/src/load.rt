@@ -1,4 +1,4 @@
-//! What A is known to hold.
+//! The number that A is known to have.
 
 ghost use Rattle.std.specs.Prelude.{◌≡◌, List, Some, ℕ};
 ghost use Rattle.filter_facts.specs.Known.{IsInA};

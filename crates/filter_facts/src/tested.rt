@@ -1,4 +1,4 @@
-//! What is known after a test, on its two sides.
+//! The facts known after a test, on its two sides.
 
 ghost use Rattle.std.specs.Prelude.{◌≡◌, List, None, Some, false, true, ℕ};
 ghost use Rattle.ipv4_fields.specs.declared.header.Field.TheVariants.{Protocol as ProtocolField};
@@ -16,9 +16,9 @@ use crate::known::Known;
 use crate::load::Loaded;
 use filter_tree::Transport;
 
-// What was known stays known.
+// Facts known before stay known.
 impl Known {
-    /// Knows besides that the packet is one of IPv4.
+    /// Adds that the packet is IPv4.
     pub fn with_ip(self) -> Known
         ensures holds { (packet : List ℕ) (a x : ℕ) → Holds self packet a x → is_ip packet ≡ Yes → Holds result packet a x }
         ensures kept { (packet : List ℕ) (a x : ℕ) → Holds result packet a x → Holds self packet a x }
@@ -36,7 +36,7 @@ impl Known {
         }
     }
 
-    /// Knows besides that it is none.
+    /// Adds that the packet is not IPv4.
     pub fn without_ip(self) -> Known
         ensures holds { (packet : List ℕ) (a x : ℕ) → Holds self packet a x → is_ip packet ≡ No → Holds result packet a x }
         ensures kept { (packet : List ℕ) (a x : ℕ) → Holds result packet a x → Holds self packet a x }
@@ -53,7 +53,7 @@ impl Known {
         }
     }
 
-    /// Knows besides that the protocol has this number, where the packet is known to be one of IPv4.
+    /// Adds that the protocol has this number, if the packet is known to be IPv4.
     pub fn with_protocol(self, n: u8) -> Known
         ensures holds { (packet : List ℕ) (a x : ℕ) → Holds self packet a x → is_protocol n packet ≡ Yes → Holds result packet a x }
         ensures kept { (packet : List ℕ) (a x : ℕ) → Holds result packet a x → Holds self packet a x }
@@ -75,8 +75,8 @@ impl Known {
         }
     }
 
-    /// Knows besides that it has another number, where the packet is known to be one of IPv4. Of two numbers that it has
-    /// not the first stays known.
+    /// Adds that the protocol has another number, if the packet is known to be IPv4. Only one excluded number is kept,
+    /// the first.
     pub fn without_protocol(self, n: u8) -> Known
         ensures holds { (packet : List ℕ) (a x : ℕ) → Holds self packet a x → is_protocol n packet ≡ No → Holds result packet a x }
         ensures kept { (packet : List ℕ) (a x : ℕ) → Holds result packet a x → Holds self packet a x }
@@ -93,7 +93,7 @@ impl Known {
         }
     }
 
-    /// Knows besides that the protocol is the one that is named; where none is, TCP, UDP or SCTP.
+    /// Adds that the protocol is the named one or, if none is named, TCP, UDP or SCTP.
     pub fn with_transport(self, transport: Transport) -> Known
         ensures holds { (packet : List ℕ) (a x : ℕ) → Holds self packet a x → tested (has_ports transport) (field_of ProtocolField packet) ≡ Yes → Holds result packet a x }
         ensures kept { (packet : List ℕ) (a x : ℕ) → Holds result packet a x → Holds self packet a x }
@@ -124,8 +124,8 @@ impl Known {
         }
     }
 
-    /// Knows besides that the protocol is not the one that is named; where none is, none of TCP, UDP and SCTP, of which
-    /// SCTP is kept.
+    /// Adds that the protocol is not the named one. If none is named, it is none of TCP, UDP and SCTP, and only the
+    /// exclusion of SCTP is kept.
     pub fn without_transport(self, transport: Transport) -> Known
         ensures holds { (packet : List ℕ) (a x : ℕ) → Holds self packet a x → tested (has_ports transport) (field_of ProtocolField packet) ≡ No → Holds result packet a x }
         ensures kept { (packet : List ℕ) (a x : ℕ) → Holds result packet a x → Holds self packet a x }
@@ -141,7 +141,7 @@ impl Known {
         }
     }
 
-    /// Knows besides that the packet has the beginning of the datagram, where it is known to be one of IPv4.
+    /// Adds that the packet has the beginning of the datagram, if it is known to be IPv4.
     pub fn with_first_fragment(self) -> Known
         ensures holds { (packet : List ℕ) (a x : ℕ) → Holds self packet a x → is_first_fragment packet ≡ Yes → Holds result packet a x }
         ensures kept { (packet : List ℕ) (a x : ℕ) → Holds result packet a x → Holds self packet a x }
@@ -159,7 +159,8 @@ impl Known {
         }
     }
 
-    /// Knows the same of the packet and of A where X was written: whether X holds the length of the header now.
+    /// Returns the same facts about the packet and A after X was written: `held` is whether X now has the length of the
+    /// header.
     pub fn with_header_in_x(self, held: bool) -> Known
         ensures holds { (packet : List ℕ) (a x x' : ℕ) → Holds self packet a x → Knows held packet x' → Holds result packet a x' }
         ensures kept { (packet : List ℕ) (a x x' : ℕ) → Holds result packet a x' → Knows (header_in_x_of self) packet x → Holds self packet a x }
@@ -173,7 +174,8 @@ impl Known {
         }
     }
 
-    /// Knows the same of the packet and of X where A was written: what A holds now, `None` where that is not known.
+    /// Returns the same facts about the packet and X after A was written: `loaded` is the number that A now has, `None`
+    /// if that is not known.
     pub fn with_in_a(self, loaded: Option<Loaded>) -> Known
         ensures holds { (packet : List ℕ) (a a' x : ℕ) → Holds self packet a x → IsInA loaded packet a' → Holds result packet a' x }
         ensures kept { (packet : List ℕ) (a a' x : ℕ) → Holds result packet a' x → IsInA (in_a_of self) packet a → Holds self packet a x }

@@ -1,5 +1,5 @@
--- The grammar of expressions (pcap-filter(7); docs/EXPRESSIONS.md, "Grammar"), as relations between tokens and trees. In
--- each of them the tokens up to `rest` are what is spelt, and `rest` is what follows them.
+-- The grammar of expressions (pcap-filter(7); docs/EXPRESSIONS.md, "Grammar"), as relations between tokens and trees. In each
+-- relation the tokens up to `rest` spell the tree, and `rest` follows them.
 use Rattle.std.specs.Prelude.{◌++◌, ◌∷◌, ◌≤◌, List, [], suc, ℕ}
 use Rattle.filter_tree.specs.declared.arithmetic.Operator.{Operator}
 use Rattle.filter_tree.specs.declared.arithmetic.Operator.TheVariants.{Add, And as BitAnd, Divide, ExclusiveOr, Modulo, Multiply, Or as BitOr, ShiftLeft, ShiftRight, Subtract}
@@ -33,14 +33,14 @@ precedence_of Multiply = 5
 precedence_of Divide = 5
 precedence_of Modulo = 5
 
--- what `and`, `&&`, `or` and `||` make of two trees
+-- the tree of `and`, `&&`, `or` and `||` over two trees
 abbrev pub joined : Connective → Tree → Tree → Tree
 joined And left right = conjunction left right
 joined AndSign left right = conjunction left right
 joined Or left right = disjunction left right
 joined OrSign left right = disjunction left right
 
--- what the name of a protocol alone means: `tcp`, `udp` and `icmp` are `ip proto` 6, 17 and 1
+-- the meaning of a protocol's name alone: `tcp`, `udp` and `icmp` are `ip proto` 6, 17 and 1
 abbrev pub named : Protocol → Primitive
 named IpName = Ip
 named TcpName = IsProto 6
@@ -61,7 +61,7 @@ pub data SpellsDirection : List Token → List Token → Direction → Type 0 wh
   source_or_destination : {rest : List Token} → SpellsDirection (Source ∷ Connects Or ∷ Destination ∷ rest) rest Either
   source_and_destination : {rest : List Token} → SpellsDirection (Source ∷ Connects And ∷ Destination ∷ rest) rest Both
 
--- the size behind `:`
+-- the size after `:`
 pub data SpellsSize : Token → Size → Type 0 where
   one : SpellsSize (Number 1) One
   two : SpellsSize (Number 2) Two
@@ -120,7 +120,7 @@ mutual
         SpellsArith 0 from (Compares relator ∷ mid) a → SpellsArith 0 mid rest b →
         SpellsUnary from rest (relation a relator b)
 
--- the tokens are those of a whole expression, and this is its tree
+-- the tokens are those of a complete expression, and this is its tree
 abbrev pub Spells : List Token → Tree → Type 0
 Spells tokens tree = SpellsExpr tokens [] tree
 

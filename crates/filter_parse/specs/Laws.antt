@@ -1,4 +1,4 @@
--- What holds of the grammar.
+-- Laws of the grammar.
 use Rattle.std.specs.Prelude.{◌≡◌, ◌≤◌, List, ℕ}
 use Rattle.filter_tree.specs.Measure.{depth_of}
 use Rattle.filter_tree.specs.Text.{printed}
@@ -13,7 +13,7 @@ use Rattle.filter_parse.specs.Grammar.{Spells}
 abbrev pub HasOneTree : Type 0
 HasOneTree = (text : List ℕ) (one other : Tree) → HasTree text one → HasTree text other → one ≡ other
 
--- no tokens spell two trees, be the trees within the limits or not
+-- no sequence of tokens spells two trees, whether the trees are within the limits or not
 abbrev pub IsUnambiguous : Type 0
 IsUnambiguous = (tokens : List Token) (one other : Tree) → Spells tokens one → Spells tokens other → one ≡ other
 
@@ -25,6 +25,6 @@ ExcludesFaults = (text : List ℕ) (tree : Tree) (fault : ParseFault) → HasTre
 abbrev pub HasOneFault : Type 0
 HasOneFault = (text : List ℕ) (one other : ParseFault) → HasFault text one → HasFault text other → one ≡ other
 
--- the text that a tree is printed as has that tree
+-- the printed text of a tree has that tree
 abbrev pub ReadsBack : Type 0
 ReadsBack = (tree : Tree) → IsInRange tree → depth_of tree ≤ MAX_DEPTH → HasTree (printed tree) tree

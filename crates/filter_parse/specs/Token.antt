@@ -19,14 +19,14 @@ is_blank c = c == 32 || c == 9
 abbrev pub begins_word : ℕ → Bool
 begins_word c = is_ascii_alphabetic c || c == 95
 
--- what a word goes on with
+-- the bytes with which a word goes on
 abbrev pub is_word_part : ℕ → Bool
 is_word_part c = is_ascii_alphanumeric c || c == 95
 
 abbrev pub is_dot : ℕ → Bool
 is_dot c = c == 46
 
--- a number or an address is a longest run of letters, digits and dots that begins with a digit: what it goes on with
+-- a number or an address is a longest run of letters, digits and dots that begins with a digit: the bytes with which it goes on
 abbrev pub is_number_part : ℕ → Bool
 is_number_part c = is_ascii_alphanumeric c || c == 46
 
@@ -43,7 +43,7 @@ name_token word =
     else (if bytes_eq word (codes "len") then Some Length
     else None)))))))
 
--- qualifiers, and what begins a primitive
+-- qualifiers, and words that begin a primitive
 abbrev pub qualifier_token : List ℕ → Token
 qualifier_token word =
     if bytes_eq word (codes "src") then Source
@@ -57,15 +57,15 @@ qualifier_token word =
     else (if bytes_eq word (codes "greater") then Greater
     else Stray))))))))
 
--- a word; any other is no token of the language
+-- a word; any other is not a token of the language
 abbrev pub word_token : List ℕ → Token
 word_token word = unwrap_or (name_token word) (qualifier_token word)
 
--- what a number of any size is kept as: 4294967296 stands for every greater one
+-- the kept value of a number of any size: 4294967296 for every greater one
 abbrev pub capped : ℕ → ℕ
 capped n = min n TOO_BIG
 
--- what digits are worth
+-- the value of digits
 abbrev pub value_of : ℕ → List ℕ → ℕ
 value_of base digits = fold (λ n c. n * base + digit_value c) 0 digits
 
@@ -80,7 +80,7 @@ abbrev pub is_hexadecimal : List ℕ → Bool
 is_hexadecimal (c ∷ d ∷ e ∷ digits) = c == 48 && d == 120 && list_all is_ascii_hexdigit (e ∷ digits)
 is_hexadecimal _ = false
 
--- a number; a misspelt one is no token of the language
+-- a number; a malformed one is not a token of the language
 abbrev pub number_token : List ℕ → Token
 number_token text =
     if is_decimal text then Number (capped (value_of 10 text))
@@ -94,7 +94,7 @@ octet_of part = if is_decimal part && nat_le (value_of 10 part) 255 then Some (v
 abbrev pub first_dot : List ℕ → ℕ
 first_dot text = position_or_len is_dot text
 
--- the part before the first dot, and what stands behind that dot
+-- the part before the first dot, and the text after that dot
 abbrev pub first_octet : List ℕ → Option (ℕ × List ℕ)
 first_octet text =
     if first_dot text == length text then None
@@ -168,7 +168,7 @@ abbrev pub StandsAlone : ℕ → List ℕ → Type 0
 StandsAlone c [] = Unit {0}
 StandsAlone c (d ∷ rest) = pair_sign c d ≡ None
 
--- these bytes, with this rest behind them, are the spelling of a token
+-- these bytes, with this rest after them, are the spelling of a token
 pub data IsSpelling : List ℕ → List ℕ → Token → Type 0 where
   a_word : (c : ℕ) (more rest : List ℕ) → begins_word c ≡ true → IsLongestRun is_word_part (c ∷ more) rest →
       IsSpelling (c ∷ more) rest (word_token (c ∷ more))
@@ -182,8 +182,8 @@ pub record Placed : Type 0 where
   pub token : Token
   pub place : ℕ
 
--- these are the tokens of a text whose first byte is at a place: spellings, one behind the other, with blanks before, between
--- and behind them
+-- these are the tokens of a text whose first byte is at a place: spellings, one after the other, with blanks before, between and
+-- after them
 pub data AreTokens : ℕ → List ℕ → List Placed → Type 0 where
   no_more : (place : ℕ) → AreTokens place [] []
   blank_first : (place c : ℕ) (text : List ℕ) (tokens : List Placed) → is_blank c ≡ true → AreTokens (place + 1) text tokens →

@@ -1,4 +1,4 @@
--- Models of the code: what the contracts of private functions cite. No public clause stands on them.
+-- Models of the code: what the contracts of private functions cite. No public clause depends on them.
 pub mod Parser
 pub mod Postfix
 pub mod Place

@@ -1,4 +1,4 @@
-//! Shifts behind an arithmetic expression, and inside an accessor.
+//! Shifts after an arithmetic expression, and inside an accessor.
 
 ghost use Rattle.std.specs.Prelude.{◌≡◌, ◌∷◌, ◌++◌, MatchResult, None, [], Some};
 ghost use Rattle.filter_parse.specs.declared.fault.ParseFault.TheVariants.{OutOfMemory};
@@ -86,7 +86,7 @@ impl<'a, A: Allocator> Parser<'a, A> {
         }
     }
 
-    /// Appends a whole operand to the output. What it is the right side of is reduced by the next lookahead.
+    /// Appends a complete operand to the output. The next lookahead reduces the operators that it completes.
     #[inline(always)]
     pub(crate) fn put_operand(&mut self, item: Item) -> Result<(), ParseFault>
         ensures { MatchResult result

@@ -1,4 +1,4 @@
-//! The tree of an expression in postfix order: its last part is taken first, and then the parts that this one stands over.
+//! The tree of an expression in postfix order: the last part is taken first, and then its own parts.
 
 ghost use Rattle.std.specs.Prelude.{◌≡◌, ◌∷◌, [], IfOk, MatchOption, OnOk, reverse};
 ghost use Rattle.filter_tree.specs.View.{arith_tree_of, tree_of};
@@ -26,7 +26,7 @@ fn take_last(parts: &mut &[Item]) -> Option<Item>
     }
 }
 
-// Takes the last part where it is a number.
+// Takes the last part if it is a number.
 fn take_number(parts: &mut &[Item]) -> Option<u32>
     ensures { MatchOption result
         (parts.new.now ≡ parts.old.now)
@@ -69,7 +69,8 @@ fn take_relator(parts: &mut &[Item]) -> Option<Relation>
     }
 }
 
-// Each part is made where it is to stand: else each turn of the recursions clears room for the whole parts that they answer.
+// Each part is made in its final place. Otherwise each level of the recursions would reserve stack for the whole parts
+// that it returns.
 
 #[inline(always)]
 fn boxed<A: Allocator + Clone, T: Drop>(alloc: &A, value: T) -> Result<Box<T, A>, OutOfMemory>
@@ -78,7 +79,7 @@ fn boxed<A: Allocator + Clone, T: Drop>(alloc: &A, value: T) -> Result<Box<T, A>
     Ok(Box::new(alloc.clone()?, value)?)
 }
 
-// A place is filled once. What stood in it has no parts, so nothing is read there to be dropped.
+// A place is filled once. Its old value has no parts, so nothing is read there to be dropped.
 
 // Why parts are written in place: docs/INTERNALS.md, "A tree is taken from its last part".
 #[inline(always)]
@@ -103,7 +104,7 @@ fn put<A: Allocator>(to: &mut Expr<A>, made: Expr<A>)
     }
 }
 
-// Mostly an operand is a number, which is made where it is asked for.
+// Usually an operand is a number, which is made without a call to `arithmetic`.
 #[inline(always)]
 #[cycle(arithmetic)]
 fn operand<A: Allocator + Clone>(
@@ -160,7 +161,7 @@ fn arithmetic<A: Allocator + Clone>(
     }
 }
 
-// A side of a relation: mostly a number, which is made without a call.
+// A side of a relation: usually a number, which is made without a call.
 #[inline(always)]
 fn side<A: Allocator + Clone>(
     alloc: &A,
@@ -219,7 +220,8 @@ fn part<A: Allocator + Clone>(
     joined(alloc, parts)
 }
 
-// The other parts, which have parts of the same kind. Room for these is cleared here, and not for a primitive or a relation.
+// The other parts, which have parts of the same kind. Stack for these is reserved here, and not for a primitive or a
+// relation.
 #[inline(always)]
 #[cycle(build)]
 fn joined<A: Allocator + Clone>(
@@ -234,7 +236,7 @@ fn joined<A: Allocator + Clone>(
     Ok(made)
 }
 
-/// Takes the last tree from some parts, and puts it to its place.
+/// Takes the last tree from some parts, and writes it to its place.
 #[inline(always)]
 #[cycle(build)]
 pub(crate) fn build<A: Allocator + Clone>(

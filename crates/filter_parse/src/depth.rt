@@ -55,7 +55,7 @@ pub(crate) fn is_too_deep<A: Allocator>(alloc: &A, items: &[Item]) -> Result<boo
     Ok(depth_of(alloc, items)? > MAX_DEPTH)
 }
 
-// Tells the depth of the tree of some parts, or 65 where it is greater.
+// Returns the depth of the tree of some parts, or 65 if it is greater.
 fn depth_of<A: Allocator>(alloc: &A, items: &[Item]) -> Result<u32, OutOfMemory>
     ensures { IfOk result (λ depth. depth ≡ first_depth (depths_of items.now [])) }
 {

@@ -1,4 +1,4 @@
-//! Shifts where an expression begins, and behind a whole one.
+//! Shifts at the beginning of an expression, and after a complete one.
 
 ghost use Rattle.std.specs.Prelude.{◌≡◌, ◌∷◌, MatchResult, None, Some};
 ghost use Rattle.filter_parse.specs.declared.fault.ParseFault.TheVariants.{OutOfMemory};
@@ -78,7 +78,7 @@ impl<'a, A: Allocator> Parser<'a, A> {
         }
     }
 
-    /// Leaves pending what the lookahead began, until its right side is whole.
+    /// Pushes the entry that the lookahead began; it is pending until its right side is complete.
     #[inline(always)]
     pub(crate) fn push(&mut self, pending: Pending) -> Result<(), ParseFault>
         ensures { MatchResult result

@@ -1,4 +1,4 @@
-//! Why a text is no filter expression.
+//! Why a text is not a filter expression.
 
 ghost use Rattle.std.specs.Prelude.{◌≡◌};
 ghost use Rattle.filter_parse.specs.Code.{parse_code};
@@ -6,13 +6,13 @@ ghost use Rattle.filter_parse.specs.Code.{parse_code};
 use fault_code::Code;
 use std::alloc::{AllocError, AllocFailed};
 
-/// Why a text is no filter expression, and where: `at` counts bytes from the text's first. A place where something is
-/// missing at the end is the text's length.
+/// Why a text is not a filter expression, and where: `at` counts bytes from the text's first. If something is missing
+/// at the end, `at` is the text's length.
 #[derive(Clone, Copy, Debug, PartialEq, Eq)]
 pub enum ParseFault {
-    /// P1: no expression begins with what stands before and this token.
+    /// P1: no expression begins with the tokens up to and including this one.
     Syntax { at: usize },
-    /// P2: a number above what may stand there.
+    /// P2: a number above the limit of its place.
     NumberTooBig { at: usize },
     /// P3: an address that is not four decimal numbers of 0 to 255 without leading zeros.
     BadAddress { at: usize },
@@ -20,12 +20,12 @@ pub enum ParseFault {
     BadPrefix { at: usize },
     /// P5: a bracket with which more than `MAX_DEPTH` are open, or a tree that is deeper.
     TooDeep { at: usize },
-    /// P6: a growth was refused.
+    /// P6: an allocation was refused.
     OutOfMemory,
 }
 
 impl ParseFault {
-    /// The code (docs/COMMANDS.md, "Refusals").
+    /// Returns the code (docs/COMMANDS.md, "Refusals").
     pub fn code(self) -> Code
         ensures { result ≡ parse_code self }
     {

@@ -1,8 +1,8 @@
-//! An expression in postfix order: what is read of it, each part behind its own parts.
+//! An expression in postfix order: its parts as they were read, each after its own parts.
 
 use filter_tree::{Operator, Primitive, Protocol, Relation, Size};
 
-/// A part of an expression, which takes the parts that it stands over from those before it.
+/// A part of an expression, which takes its own parts from those before it.
 #[derive(Clone, Copy, Default)]
 pub(crate) enum Item {
     #[default]

@@ -1,7 +1,7 @@
 //! Filter expressions read from text (pcap-filter(7); docs/EXPRESSIONS.md, "Grammar" and "Faults and their places").
 //!
-//! `parse` goes over the text once, keeps what is open on a stack of its own and gathers the expression's parts in postfix
-//! order. Only a whole expression whose depth is within the limit becomes a tree.
+//! `parse` goes over the text once, keeps open parts on a stack of its own and gathers the expression's parts in
+//! postfix order. Only a complete expression whose depth is within the limit becomes a tree.
 #![tactic(auto)]
 
 ghost use Rattle.std.specs.Prelude.{◌≡◌, ◌⊎◌, IfErr, IfOk, OnOk, []};
@@ -39,10 +39,10 @@ use filter_tree::{Expr, Primitive};
 use parser::Parser;
 use std::alloc::Allocator;
 
-/// The answer of a call that was refused memory.
+/// The error of a call whose allocation was refused.
 pub use std::alloc::AllocError as OutOfMemory;
 
-/// The greatest depth of a tree that is read, and the most brackets that may be open.
+/// The greatest depth of a tree that is read, and the greatest number of open brackets.
 pub const MAX_DEPTH: u32 = 64;
 
 /// Law: the limit, as a number. It runs nothing.
@@ -50,11 +50,12 @@ pub fn limits_as_numbers()
     ensures { MAX_DEPTH ≡ 64 }
 {}
 
-/// Reads a filter expression: the tree that the grammar gives the text, with its parts placed by clones of `alloc`.
+/// Parses a filter expression: returns the tree that the grammar gives the text, with its parts placed by clones of
+/// `alloc`.
 ///
-/// `Err` is the fault at the least place, of those at one place first that the token does not fit there; a tree that is too
-/// deep is answered only where nothing else is wrong. It is `OutOfMemory` where memory was refused, whatever the text. The text
-/// may be any bytes.
+/// `Err` is the fault at the first place in the text; of several at one place, `Syntax` comes first. A tree that is too
+/// deep is reported only if nothing else is wrong. `Err` is `OutOfMemory` if an allocation is refused, whatever the
+/// text. The text may be any bytes.
 pub fn parse<A: Allocator + Clone>(alloc: A, text: &[u8]) -> Result<Expr<A>, ParseFault>
     ensures parses { IfOk result (λ e. HasTree text.now (tree_of e)) }
     ensures fault { IfErr result (λ fault. (fault ≡ ParseFault.OutOfMemory) ⊎ HasFault text.now fault) }
@@ -66,7 +67,8 @@ pub fn parse<A: Allocator + Clone>(alloc: A, text: &[u8]) -> Result<Expr<A>, Par
     Ok(tree)
 }
 
-// The same by a parser before the text and a place for the tree, which `parse` drops at one place, and not where each test fails.
+// The same, with a parser at the text's start and a place for the tree. `parse` drops both in one place, not after each
+// test that fails.
 fn read_tree<'a, A: Allocator + Clone>(
     alloc: &'a A,
     parser: &mut Parser<'a, A>,
@@ -87,8 +89,8 @@ fn read_tree<'a, A: Allocator + Clone>(
     Ok(())
 }
 
-/// Law: a text has at most one tree and at most one fault, and never both. No tokens spell two trees, not even trees that are too
-/// deep. It runs nothing.
+/// Law: a text has at most one tree and at most one fault, and never both. No sequence of tokens spells two trees, not
+/// even trees that are too deep. It runs nothing.
 pub fn one_value()
     ensures one_value { HasOneTree }
     ensures unambiguous { IsUnambiguous }
@@ -96,8 +98,8 @@ pub fn one_value()
     ensures one_fault { HasOneFault }
 {}
 
-/// The text that a tree of depth at most `MAX_DEPTH` is printed as has that tree, where the tree's numbers are in their ranges.
-/// `Expr::print` says by `in_range` that its tree is such a one, so `parse` reads back what it printed.
+/// Law: a tree's printed text parses to that tree, if its depth is at most `MAX_DEPTH` and its numbers are in their
+/// ranges. `Expr::print` ensures by `in_range` that its tree's numbers are, so `parse` reads back what it printed.
 pub fn reads_back()
     ensures reads_back { ReadsBack }
 {}

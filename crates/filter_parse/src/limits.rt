@@ -1,4 +1,4 @@
-//! Limits on what a token says: numbers and addresses within the range of their place, and the number of open brackets.
+//! Limits of a token: numbers and addresses within the range of their place, and the number of open brackets.
 
 ghost use Rattle.std.specs.Prelude.{◌≡◌, ◌≤◌, ◌<◌, MatchResult, None, Some};
 ghost use Rattle.filter_parse.specs.declared.fault.ParseFault.TheVariants.{BadAddress, NumberTooBig};

@@ -1,4 +1,4 @@
-//! The parser: it goes over the tokens of a text once, and gives the expression in postfix order or the text's fault.
+//! The parser: it goes over the tokens of a text once, and returns the expression in postfix order or the text's fault.
 
 ghost use Rattle.std.specs.Prelude.{◌≡◌, ◌⊎◌, [], Err, MatchResult, None, Ok};
 ghost use Rattle.filter_parse.specs.declared.fault.ParseFault.TheVariants.{OutOfMemory};
@@ -13,7 +13,7 @@ use crate::state::{Pending, State};
 use crate::step::open_after;
 use std::alloc::Allocator;
 
-/// What has been shifted last, what is pending, and the output so far.
+/// The last shift, the pending entries, and the output so far.
 /// The reason: docs/INTERNALS.md, "The parser is an operator-precedence parser".
 #[derive(Drop)]
 pub(crate) struct Parser<'a, A: Allocator> {
@@ -23,7 +23,7 @@ pub(crate) struct Parser<'a, A: Allocator> {
 }
 
 impl<'a, A: Allocator> Parser<'a, A> {
-    /// A parser before a text.
+    /// Returns a parser at the start of a text.
     pub(crate) fn new(alloc: &'a A) -> Parser<'a, A>
         ensures { parsing_of result ≡ parsing Expects [] [] }
     {
@@ -34,7 +34,8 @@ impl<'a, A: Allocator> Parser<'a, A> {
         }
     }
 
-    /// Reads a whole text: its output is the parts of the text's expression in postfix order. Else gives the text's fault.
+    /// Reads a whole text: the output is then the parts of the text's expression in postfix order. Otherwise returns
+    /// the text's fault.
     pub(crate) fn read(&mut self, text: &[u8]) -> Result<(), ParseFault>
         requires { parsing_of self.old ≡ parsing Expects [] [] }
         ensures { MatchResult result
@@ -51,7 +52,7 @@ impl<'a, A: Allocator> Parser<'a, A> {
         self.finish(text.len())
     }
 
-    // Tells whether the expression that was read is whole before a place.
+    // Tests whether the expression that was read is complete before a place.
     fn finish(&mut self, at: usize) -> Result<(), ParseFault>
         ensures { MatchResult result
             (λ _. at_end at (accepted (reduced None (parsing_of self.old))) ≡ Ok self.new.output.entries.items)

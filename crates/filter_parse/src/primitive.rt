@@ -1,4 +1,4 @@
-//! Shifts inside a primitive, behind its qualifiers or its first word.
+//! Shifts inside a primitive, after its qualifiers or its first word.
 
 ghost use Rattle.std.specs.Prelude.{◌≡◌, ◌++◌, ◌∷◌, MatchResult, []};
 ghost use Rattle.filter_parse.specs.declared.fault.ParseFault.TheVariants.{OutOfMemory};

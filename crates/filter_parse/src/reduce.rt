@@ -1,4 +1,4 @@
-//! Reductions: what is pending on the stack and has its right side whole goes to the output.
+//! Reductions: a pending entry whose right side is complete moves from the stack to the output.
 
 ghost use Rattle.std.specs.Prelude.{◌≡◌, ◌++◌, ◌⊎◌, ◌∷◌, IfOk, None, OnOk, Some, [], MatchResult};
 ghost use Rattle.filter_parse.specs.Grammar.{named, precedence_of};
@@ -17,7 +17,7 @@ use filter_tree::{Operator, Primitive, Protocol};
 use std::alloc::Allocator;
 
 impl<'a, A: Allocator> Parser<'a, A> {
-    /// Reduces what the lookahead leaves whole.
+    /// Reduces the pending entries that the lookahead completes.
     #[inline(always)]
     pub(crate) fn reduce(&mut self, lookahead: Option<Token>) -> Result<(), OutOfMemory>
         ensures { OnOk result (parsing_of self.new ≡ reduced lookahead (parsing_of self.old)) }
@@ -67,7 +67,7 @@ impl<'a, A: Allocator> Parser<'a, A> {
         Ok(())
     }
 
-    /// Appends a whole primitive to the output, and reduces what it is the right side of.
+    /// Appends a complete primitive to the output, and reduces the entries that it completes.
     #[inline(always)]
     pub(crate) fn reduce_primitive(&mut self, primitive: Primitive) -> Result<(), OutOfMemory>
         ensures state { OnOk result (self.new.state ≡ Truth) }
@@ -81,7 +81,7 @@ impl<'a, A: Allocator> Parser<'a, A> {
     }
 }
 
-// Mostly there is none to reduce, which is told first.
+// Usually there is none to reduce, which is tested first.
 #[inline(always)]
 fn reduce_operators<'a, A: Allocator>(
     stack: &mut Stack<'a, Pending, A>,
@@ -113,7 +113,8 @@ fn reduce_each_operator<'a, A: Allocator>(
     Ok(())
 }
 
-/// Reduces `not`, and one `and` or `or` below: they bind alike and associate to the left, so no two wait on one another.
+/// Reduces `not`, and one `and` or `or` below: these two bind alike and associate to the left, so none is pending on
+/// another.
 pub(crate) fn reduce_connectives<'a, A: Allocator>(
     stack: &mut Stack<'a, Pending, A>,
     output: &mut Stack<'a, Item, A>,
@@ -200,7 +201,7 @@ fn junction_of(word: Connective) -> Item
     }
 }
 
-/// Tests whether only an arithmetic expression may stand above the top.
+/// Tests whether only an arithmetic expression is allowed above the top.
 pub(crate) fn is_numeric<'a, A: Allocator>(stack: &Stack<'a, Pending, A>) -> bool
     ensures { result ≡ is_numeric (from_top stack.now) }
 {

@@ -1,4 +1,4 @@
-//! Taking a text apart into its tokens (docs/EXPRESSIONS.md, "Tokens").
+//! Splitting a text into its tokens (docs/EXPRESSIONS.md, "Tokens").
 
 ghost use Rattle.std.specs.Prelude.{◌≡◌, ◌≤◌, ◌+◌, ◌∷◌, ◌<◌, IfSome, IsTrue, MatchOption, [], drop, length};
 ghost use Rattle.std.specs.List.{prefix_len};
@@ -10,7 +10,7 @@ use crate::number::{Digits, leading_digits, leading_hexadecimal, number_or_addre
 use crate::sign::{pair_sign, sign, word_token};
 use crate::token::{Lexeme, Token};
 
-/// A token, the place of its first byte, and the place behind its last.
+/// A token, the place of its first byte, and the place after its last.
 pub(crate) struct Found {
     pub(crate) token: Token,
     pub(crate) place: usize,
@@ -55,7 +55,7 @@ fn number_len(text: &[u8]) -> usize
     text.iter().take_while(|c| is_number_part(**c)).count()
 }
 
-// Tests whether digits have no leading zero, but for `0` alone.
+// Tests whether digits have no leading zero, except for `0` alone.
 fn is_plain(digits: &[u8]) -> bool
     ensures { result ≡ is_plain digits.now }
 {
@@ -98,7 +98,7 @@ fn begins_hexadecimal(text: &[u8]) -> bool
     }
 }
 
-// A hexadecimal number, or what no digits alone tell.
+// A hexadecimal number, or a token that digits alone do not decide.
 #[inline(never)]
 fn rare_number_lexeme(text: &[u8]) -> Lexeme
     ensures { result ≡ number_lexeme text.now }
@@ -116,7 +116,7 @@ fn rare_number_lexeme(text: &[u8]) -> Lexeme
     other_number_lexeme(text)
 }
 
-// An address, or a number that is misspelt.
+// An address, or a malformed number.
 fn other_number_lexeme(text: &[u8]) -> Lexeme
     ensures { result ≡ number_lexeme text.now }
 {
@@ -158,7 +158,7 @@ fn lexeme(text: &[u8], c: u8, rest: &[u8]) -> Lexeme
     }
 }
 
-/// Finds the next token of a text, at a place or behind blanks that stand there.
+/// Finds the next token of a text, at a place or after the blanks there.
 #[inline(always)]
 pub(crate) fn next_token(text: &[u8], at: usize) -> Option<Found>
     requires { at ≤ length text.now }

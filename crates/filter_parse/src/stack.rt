@@ -7,7 +7,7 @@ use crate::OutOfMemory;
 use smallvec::SmallVec;
 use std::alloc::Allocator;
 
-// Short texts need no memory for it.
+// Short texts need no memory for a stack.
 #[derive(Drop)]
 pub(crate) struct Stack<'a, T: Copy + Default + Drop, A: Allocator> {
     // The reason: docs/INTERNALS.md, "Short texts are parsed without memory".
@@ -34,7 +34,7 @@ impl<'a, T: Copy + Default + Drop, A: Allocator> Stack<'a, T, A> {
         self.grow_and_push(entry)
     }
 
-    // Apart from `push`, which would else save registers for this call also where there is room.
+    // Separate from `push`, which would otherwise save registers for this call even if there is room.
     #[cold]
     #[inline(never)]
     fn grow_and_push(&mut self, entry: T) -> Result<(), OutOfMemory>
@@ -58,7 +58,7 @@ impl<'a, T: Copy + Default + Drop, A: Allocator> Stack<'a, T, A> {
         self.entries.as_slice().last().copied()
     }
 
-    /// The entries, the top last.
+    /// Returns the entries, the top last.
     pub(crate) fn entries(&self) -> &[T]
         ensures { result.now ≡ self.now.entries.items }
     {

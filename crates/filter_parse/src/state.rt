@@ -1,19 +1,19 @@
-//! The parser's state and what is pending on its stack, in the terms of operator-precedence parsing.
+//! The parser's state and the pending entries on its stack, in the terms of operator-precedence parsing.
 //!
-//! - Lookahead: the token at hand. To shift it is to take it, which sets the state and may push what is pending.
-//! - State: what has been shifted last, and so what may come next.
+//! - Lookahead: the token at hand. To shift it is to take it, which sets the state and may push a pending entry.
+//! - State: the last shift, and so what may come next.
 //! - Stack: operators, relations, `not`, `and`, `or` and brackets whose right sides are still to come.
-//! - To reduce is to pop one of them whose right side is whole, and to append it to the output. Before the lookahead is
+//! - To reduce is to pop an entry whose right side is complete, and to append it to the output. Before the lookahead is
 //!   shifted, the operators that bind at least as tightly as it are reduced: its precedence decides.
-//! - Output: the parts of the expression in postfix order, each behind the parts that it stands over.
+//! - Output: the parts of the expression in postfix order, each after its own parts.
 
 use crate::token::Connective;
 use filter_tree::{Direction, Operator, Protocol, Relation, Size, Transport};
 
-/// What has been shifted last.
+/// The last shift.
 #[derive(Clone, Copy)]
 pub(crate) enum State {
-    /// Nothing, or what an operand or an expression is to follow.
+    /// Nothing, or a token that an operand or an expression must follow.
     Expects,
     /// An arithmetic expression, which may go on.
     Number,
@@ -53,7 +53,7 @@ pub(crate) enum State {
     WantsEnd(Protocol, Size),
 }
 
-/// What is pending on the stack, until its right side is whole.
+/// An entry that is pending on the stack until its right side is complete.
 #[derive(Clone, Copy, Default)]
 pub(crate) enum Pending {
     /// An expression and `and` or `or`.
@@ -61,7 +61,7 @@ pub(crate) enum Pending {
     /// `not`.
     #[default]
     Negated,
-    /// `(`, and whether only an arithmetic expression may stand in it.
+    /// `(`, and whether only an arithmetic expression is allowed in it.
     /// The reason: docs/INTERNALS.md, "One kind of open bracket".
     Bracket(bool),
     /// An arithmetic expression and a relation.

@@ -12,7 +12,7 @@ use crate::token::Token;
 use filter_tree::Protocol;
 use std::alloc::Allocator;
 
-/// Counts the brackets that are open after a token, given how many are open before it.
+/// Returns the number of brackets that are open after a token, if `brackets` are open before it.
 pub(crate) fn open_after(token: Token, brackets: usize) -> usize
     requires { brackets + 1 < 2 ^ 64 }
     ensures exact { result ≡ open_after token brackets }
@@ -26,8 +26,8 @@ pub(crate) fn open_after(token: Token, brackets: usize) -> usize
 }
 
 impl<'a, A: Allocator> Parser<'a, A> {
-    /// Takes the lookahead, which is at a place behind so many open brackets.
-    // One match on the state: only behind an operand and behind a name can the lookahead reduce.
+    /// Takes the lookahead, at the place `at`, with `brackets` open brackets before it.
+    // One match on the state: the lookahead can reduce only after an operand or a name.
     pub(crate) fn step(
         &mut self,
         lookahead: Token,
@@ -53,7 +53,7 @@ impl<'a, A: Allocator> Parser<'a, A> {
         }
     }
 
-    // Behind an arithmetic expression, or behind the relation that was reduced with it.
+    // After an arithmetic expression, or after the relation that was reduced with it.
     #[inline(always)]
     fn shift_behind_number(&mut self, lookahead: Token, at: usize) -> Result<(), ParseFault>
         requires { (self.old.state ≡ Number) ⊎ (self.old.state ≡ Truth) }
@@ -65,7 +65,7 @@ impl<'a, A: Allocator> Parser<'a, A> {
         }
     }
 
-    // Behind a protocol's name, or behind the primitive that it was reduced to.
+    // After a protocol's name, or after the primitive that it was reduced to.
     #[inline(always)]
     fn shift_behind_name(
         &mut self,

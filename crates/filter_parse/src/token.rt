@@ -2,7 +2,7 @@
 
 use filter_tree::{Operator, Protocol, Relation};
 
-/// What stands for every number above 4294967295, and for an address that is misspelt.
+/// The value of every number above 4294967295, and of a malformed address.
 pub(crate) const TOO_BIG: u64 = 1 << 32;
 
 /// `and` or `or`, as it is spelt.
@@ -61,12 +61,12 @@ pub(crate) enum Token {
     CloseIndex,
     /// `:`.
     Colon,
-    /// A number as it is worth; 4294967296 stands for every greater one.
+    /// The value of a number; 4294967296 for every greater one.
     Number(u64),
-    /// Four decimal numbers with dots between them as an address in host order; 4294967296 stands for any other spelling
-    /// with a dot.
+    /// Four decimal numbers with dots between them, as an address in host order; 4294967296 for any other spelling with
+    /// a dot.
     Address(u64),
-    /// Bytes that are no token of the language: another word, a number that is misspelt, any other byte.
+    /// Bytes that are not a token of the language: another word, a malformed number, any other byte.
     Stray,
 }
 

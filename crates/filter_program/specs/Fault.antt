@@ -1,4 +1,4 @@
--- What is wrong with a program's text where it means no program (docs/COMMANDS.md, "Refusals").
+-- The fault of a program's text that means no program (docs/COMMANDS.md, "Refusals").
 use Rattle.std.specs.Prelude.{◌≡◌, ◌<◌, ◌≤◌, List, ℕ}
 use Rattle.bpf_asm.specs.Assembly.{Assembles, IsFaultOf}
 use Rattle.bpf_asm.specs.declared.fault.AsmFault.{AsmFault}
@@ -16,13 +16,13 @@ use Rattle.filter_program.specs.Program.{IsMeaningOf, Source, TextProgram, assem
 use Rattle.filter_program.specs.declared.fault.TextFault.{TextFault}
 use Rattle.filter_program.specs.declared.fault.TextFault.TheVariants.{Assembly, Compiling, Expression, OutOfMemory, Words}
 
--- that it is no assembly, else that its words are not accepted
+-- it is not assembly; otherwise its words are not accepted
 abbrev pub IsAssemblyFault : List ℕ → TextFault → Type 0
 IsAssemblyFault text (Assembly fault) = IsFaultOf text fault
 IsAssemblyFault text (Words fault) = (words : List ℕ) × Assembles text words × IsFirstFault words fault
 IsAssemblyFault text _ = ⊥
 
--- that it is no expression, else that this needs too many cells, else that it is too long
+-- it is not an expression; otherwise the expression needs too many cells; otherwise it is too long
 abbrev pub IsExpressionFault : List ℕ → TextFault → Type 0
 IsExpressionFault text (Expression parse.OutOfMemory) = ⊥
 IsExpressionFault text (Expression fault) = HasFault text fault
@@ -47,7 +47,7 @@ HasOneFault = (source : Source) (one other : TextFault) → IsFaultOfText source
 abbrev pub HasNotBoth : Type 0
 HasNotBoth = (source : Source) (program : TextProgram) (fault : TextFault) → IsMeaningOf source program → ¬ IsFaultOfText source fault
 
--- want of memory is one fault, whichever step it stopped
+-- lack of memory is one fault, whichever step it stopped
 abbrev pub fault_of_assembly : AsmFault → TextFault
 fault_of_assembly asm.OutOfMemory = OutOfMemory
 fault_of_assembly fault = Assembly fault

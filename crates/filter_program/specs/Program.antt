@@ -1,5 +1,5 @@
--- What a program's text means: accepted words, or the tree of an expression; and which programs are made of it. No compiled
--- instruction stands in the meaning (docs/MACHINE.md, "Assembly text"; docs/EXPRESSIONS.md).
+-- The meaning of a program's text: accepted words, or the tree of an expression; and the programs made from it. The meaning
+-- contains no compiled instruction (docs/MACHINE.md, "Assembly text"; docs/EXPRESSIONS.md).
 use Rattle.std.specs.Prelude.{◌≡◌, ◌≤◌, List, length, ℕ}
 use Rattle.bpf_asm.specs.Assembly.{Assembles}
 use Rattle.bpf_machine.specs.Meaning.{Ending, Ret, ending_of}
@@ -17,7 +17,7 @@ pub data Source : Type 0 where
   assembly : List ℕ → Source
   expression : List ℕ → Source
 
--- ---- what a text means
+-- ---- the meaning of a text
 
 -- the text is assembled to these words, and they are accepted
 pub record IsAssembledTo (text words : List ℕ) : Type 0 where
@@ -46,19 +46,19 @@ abbrev pub text_charge : TextProgram → ℕ
 text_charge (of_words words) = length words
 text_charge (of_tree tree) = size_of tree
 
--- words end as the machine says, an expression with 65535 where it is true and 0 where it is not
+-- words end as the machine says, an expression with 65535 if it is true and 0 if it is not
 abbrev pub text_ending : TextProgram → List ℕ → Ending
 text_ending (of_words words) packet = ending_of words packet
 text_ending (of_tree tree) packet = Ret (answer_of (truth_of tree packet))
 
--- ---- which program is made of a text
+-- ---- the program made from a text
 
 -- the words of the text, charged by their number
 pub record IsProgramOfAssembly (text : List ℕ) (program : ProgramValue) : Type 0 where
   pub assembled : IsAssembledTo text program.words
   pub charge : program.charge ≡ length program.words
 
--- an accepted program that answers for the tree, within its size
+-- an accepted program with the answers of the tree, within its size
 pub record IsProgramFor (tree : Tree) (words : List ℕ) : Type 0 where
   pub accepted : IsAccepted words
   pub answers : AnswersFor tree words

@@ -12,23 +12,24 @@ use filter_parse::ParseFault;
 
 /// Why no program is made of a text.
 ///
-/// Each fault but `OutOfMemory` is of the text: those of assembly, of parsing and of compiling are never their own `OutOfMemory`.
+/// Every fault except `OutOfMemory` is a fault of the text: the faults of assembly, parsing and compiling in it are
+/// never their own `OutOfMemory`.
 #[derive(Clone, Copy, Debug, PartialEq, Eq)]
 pub enum TextFault {
-    /// The text is no assembly.
+    /// The text is not assembly.
     Assembly(AsmFault),
-    /// The words that the text was assembled to are no program.
+    /// The words of the assembled text are not a program.
     Words(Fault),
-    /// The text is no expression.
+    /// The text is not an expression.
     Expression(ParseFault),
-    /// The expression has no program.
+    /// The expression cannot be compiled.
     Compiling(CompileFault),
-    /// Memory was refused.
+    /// An allocation was refused.
     OutOfMemory,
 }
 
 impl TextFault {
-    /// The code (docs/COMMANDS.md, "Refusals"). Lack of memory has A6, whichever step it stopped.
+    /// Returns the code (docs/COMMANDS.md, "Refusals"). Lack of memory is A6, whichever step it stopped.
     pub fn code(self) -> Code
         ensures { result ≡ text_code self }
     {

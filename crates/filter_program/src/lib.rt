@@ -1,5 +1,5 @@
-//! Programs made of texts: of assembly text (docs/MACHINE.md, "Assembly text") or of a filter expression (docs/EXPRESSIONS.md).
-//! Control lines and commands make their programs here.
+//! Programs made from texts: from assembly text (docs/MACHINE.md, "Assembly text") or from a filter expression
+//! (docs/EXPRESSIONS.md). Control lines and commands make their programs here.
 #![tactic(auto)]
 
 ghost use Rattle.std.specs.Prelude.{◌≡◌, ◌⊎◌, Err, IfErr, IfOk, IsOk, List, ℕ};
@@ -28,14 +28,14 @@ fn program_of_assembly(alloc: Global, text: &[u8]) -> Result<Program<Global>, Te
     }
 }
 
-// The tree lives in an arena of its own, and both are given up before the answer: only the program's words leave.
+// The tree is in an arena of its own, and both are freed before the return: only the program's words remain.
 // The reason: docs/INTERNALS.md, "filter_program".
 fn program_of_expression(alloc: Global, text: &[u8]) -> Result<Program<Global>, TextFault>
     ensures program { IfOk result (IsProgramOfExpression text.now) }
     ensures fault { IfErr result (λ fault. (fault ≡ OutOfMemory) ⊎ IsExpressionFault text.now fault) }
 {
     let arena = Bump::new(alloc);
-    // The tree stays where it was answered: it is large.
+    // The tree stays where it was returned, since it is large.
     let parsed = parse(&arena, text);
     match &parsed {
         Ok(tree) => Ok(compile(alloc, tree)?),
@@ -45,7 +45,7 @@ fn program_of_expression(alloc: Global, text: &[u8]) -> Result<Program<Global>, 
 
 /// Makes the program of an assembly text, charged by its number of words.
 ///
-/// The text may be any bytes. `OutOfMemory` may come whatever the text is.
+/// The text may be any bytes. `OutOfMemory` is possible for every text.
 pub fn assembled(alloc: Global, text: &[u8]) -> Result<Program<Global>, TextFault>
     ensures program { IfOk result (IsProgramOfAssembly text.now) }
     ensures every_program { (words : List ℕ) → IsAssembledTo text.now words → IsOk result ⊎ (result ≡ Err OutOfMemory) }
@@ -59,7 +59,7 @@ pub fn assembled(alloc: Global, text: &[u8]) -> Result<Program<Global>, TextFaul
 
 /// Makes the program of a filter expression, charged by the expression's size.
 ///
-/// The text may be any bytes. `OutOfMemory` may come whatever the text is.
+/// The text may be any bytes. `OutOfMemory` is possible for every text.
 pub fn compiled(alloc: Global, text: &[u8]) -> Result<Program<Global>, TextFault>
     ensures program { IfOk result (IsProgramOfExpression text.now) }
     ensures every_program { (tree : Tree) → IsCompilable text.now tree → IsOk result ⊎ (result ≡ Err OutOfMemory) }

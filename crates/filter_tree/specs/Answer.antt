@@ -1,10 +1,10 @@
--- What the answer to a packet is, of a program that stands for an expression.
+-- The answer to a packet, of a program for an expression.
 use Rattle.std.specs.Prelude.{◌<◌, ◌^◌, ◌≤◌, All, List, length, ℕ}
 use Rattle.filter_tree.specs.declared.TheConstants.{MAX_PACKET}
 use Rattle.filter_tree.specs.declared.truth.Truth.{Truth}
 use Rattle.filter_tree.specs.declared.truth.Truth.TheVariants.{Fails, No, Yes}
 
--- a packet is accepted, the whole of it kept, where the expression is true of it, and not where it is false or fails
+-- a packet is accepted, and kept whole, if the expression is true of it; it is not accepted if the expression is false or fails
 abbrev pub answer_of : Truth → ℕ
 answer_of Yes = 65535
 answer_of No = 0

@@ -1,5 +1,5 @@
--- What an arithmetic expression is worth on a packet (pcap-filter(7), "expr1 relop expr2"): a number below 2^32, or none
--- where a load or a division fails.
+-- The value of an arithmetic expression on a packet (pcap-filter(7), "expr1 relop expr2"): a number below 2^32, or none if a load
+-- or a division fails.
 use Rattle.std.specs.Prelude.{◌==◌, ◌+◌, ◌-◌, ◌*◌, ◌/◌, ◌%◌, ◌^◌, ◌||◌, if◌then◌else◌, Bool, List, None, Option, Some, bit_and, bit_or, bit_xor, false, length, nat_lt, option_and_then, option_map, true, ℕ}
 use Rattle.ipv4_fields.specs.declared.header.Field.TheVariants.{Ihl}
 use Rattle.ipv4_fields.specs.Field.{field_of, number_at}
@@ -11,7 +11,7 @@ use Rattle.filter_tree.specs.declared.arithmetic.Size.{Size}
 use Rattle.filter_tree.specs.declared.arithmetic.Size.TheVariants.{Four, One, Two}
 use Rattle.filter_tree.specs.Tree.{ArithTree, accessor, number, operation, packet_length}
 
--- what an operator makes of two 32-bit numbers, none where it divides by zero
+-- the result of an operator on two 32-bit numbers, none if it divides by zero
 abbrev pub combined : Operator → ℕ → ℕ → Option ℕ
 combined Or a b = Some (bit_or a b)
 combined ExclusiveOr a b = Some (bit_xor a b)
@@ -24,13 +24,13 @@ combined Multiply a b = Some (a * b % 2 ^ 32)
 combined Divide a b = if b == 0 then None else Some (a / b)
 combined Modulo a b = if b == 0 then None else Some (a % b)
 
--- how many bytes an accessor reads
+-- the number of bytes that an accessor reads
 abbrev pub byte_count : Size → ℕ
 byte_count One = 1
 byte_count Two = 2
 byte_count Four = 4
 
--- index i behind the IPv4 header, modulo 2^32; the header's length is that of the packet's first byte
+-- index i after the IPv4 header, modulo 2^32; the header's length is that of the packet's first byte
 abbrev pub behind_header : ℕ → List ℕ → Option ℕ
 behind_header i packet = option_map (λ ihl. (4 * ihl + i) % 2 ^ 32) (field_of Ihl packet)
 
@@ -45,7 +45,7 @@ place_of Icmp i packet = behind_header i packet
 abbrev pub loaded : Protocol → ℕ → Size → List ℕ → Option ℕ
 loaded protocol i size packet = option_and_then (number_at (byte_count size) packet) (place_of protocol i packet)
 
--- the value of an arithmetic expression, none where any part of it has none
+-- the value of an arithmetic expression, none if any part of it has none
 abbrev pub value_of_arith : ArithTree → List ℕ → Option ℕ
 value_of_arith (number n) packet = Some n
 value_of_arith packet_length packet = Some (length packet % 2 ^ 32)
@@ -62,7 +62,7 @@ is_same Udp Udp = true
 is_same Icmp Icmp = true
 is_same _ _ = false
 
--- whether an accessor of a protocol stands in an arithmetic expression, or in an index there
+-- whether an accessor of a protocol is in an arithmetic expression, or in an index there
 abbrev pub accesses : ArithTree → Protocol → Bool
 accesses (number n) protocol = false
 accesses packet_length protocol = false

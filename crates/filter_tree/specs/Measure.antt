@@ -71,12 +71,12 @@ weight_of_primitive (PortRange Unnamed direction n m) = by_direction direction 2
 weight_of_primitive (AtMost n) = 4
 weight_of_primitive (AtLeast n) = 4
 
--- a weight that counts only where there is cause
+-- a weight that counts only if there is cause
 abbrev pub weight_where : Bool → ℕ → ℕ
 weight_where true n = n
 weight_where false n = 0
 
--- what a relation's guards weigh: 5 with any accessor, 4 for each transport protocol and 4 with any
+-- the weight of a relation's guards: 5 with any accessor, 4 for each transport protocol and 4 with any
 abbrev pub weight_of_guards : (Protocol → Bool) → ℕ
 weight_of_guards used =
     weight_where (any_accessor used) 5
@@ -85,7 +85,7 @@ weight_of_guards used =
     + weight_where (used Icmp) 4
     + weight_where (any_transport used) 4
 
--- the most instructions of an expression, but for the two that return
+-- the most instructions of an expression, except the two that return
 abbrev pub weight_of : Tree → ℕ
 weight_of (primitive p) = weight_of_primitive p
 weight_of (relation left relator right) =

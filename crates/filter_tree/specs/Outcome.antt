@@ -1,4 +1,4 @@
--- The three outcomes of a test on a packet: yes, no, and fails, where a load passes the packet's end or a divisor is 0.
+-- The three outcomes of a test on a packet: yes, no, and fails, if a load passes the packet's end or a divisor is 0.
 use Rattle.std.specs.Prelude.{Bool, None, Option, Some, false, true, ℕ}
 use Rattle.filter_tree.specs.declared.truth.Truth.{Truth}
 use Rattle.filter_tree.specs.declared.truth.Truth.TheVariants.{Fails, No, Yes}
@@ -8,7 +8,7 @@ abbrev pub answer : Bool → Truth
 answer true = Yes
 answer false = No
 
--- the outcome of a test of a number, which fails where there is none
+-- the outcome of a test of a number, which fails if there is none
 abbrev pub tested : (ℕ → Bool) → Option ℕ → Truth
 tested holds None = Fails
 tested holds (Some n) = answer (holds n)
@@ -33,7 +33,7 @@ opposite Yes = No
 opposite No = Yes
 opposite Fails = Fails
 
--- a test that is made only where there is cause
+-- a test that is made only if there is cause
 abbrev pub where_so : Bool → Truth → Truth
 where_so true test = test
 where_so false test = Yes

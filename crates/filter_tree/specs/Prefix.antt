@@ -1,7 +1,7 @@
 -- Network prefixes (RFC 4632, section 3.1).
 use Rattle.std.specs.Prelude.{◌==◌, ◌≡◌, ◌-◌, ◌/◌, ◌%◌, ◌^◌, ◌≤◌, Bool, ℕ}
 
--- an address, and how many of its first bits are the prefix
+-- an address, and the number of its first bits that are the prefix
 pub record NetworkPrefix : Type 0 where
   pub address : ℕ
   pub bits : ℕ

@@ -1,5 +1,5 @@
--- What a primitive without arithmetic means on a packet (pcap-filter(7), "Primitives"; RFC 791, section 3.1). Its tests
--- are made in the order in which they stand.
+-- The meaning of a primitive without arithmetic on a packet (pcap-filter(7), "Primitives"; RFC 791, section 3.1). Its tests are
+-- made in the order in which they are written.
 use Rattle.std.specs.Prelude.{◌==◌, ◌&&◌, ◌||◌, Bool, List, length, max, min, nat_le, ℕ}
 use Rattle.ipv4_fields.specs.declared.header.Field.TheVariants.{Destination as DestinationAddress, DestinationPort, FragmentOffset, Protocol, Source as SourceAddress, SourcePort, Version}
 use Rattle.ipv4_fields.specs.Field.{field_of}
@@ -13,7 +13,7 @@ use Rattle.filter_tree.specs.declared.truth.Truth.{Truth}
 use Rattle.filter_tree.specs.Outcome.{◌and_then◌, ◌or_else◌, answer, tested}
 use Rattle.filter_tree.specs.Prefix.{covers}
 
--- the packet is one of IPv4
+-- the packet is IPv4
 abbrev pub is_ip : List ℕ → Truth
 is_ip packet = tested (λ version. version == 4) (field_of Version packet)
 
@@ -25,7 +25,7 @@ is_protocol n packet = tested (λ protocol. protocol == n) (field_of Protocol pa
 abbrev pub is_first_fragment : List ℕ → Truth
 is_first_fragment packet = tested (λ offset. offset == 0) (field_of FragmentOffset packet)
 
--- the protocols that have ports: the one that is named, else TCP, UDP and SCTP
+-- the protocols that have ports: the named one or, if none is named, TCP, UDP and SCTP
 abbrev pub has_ports : Transport → ℕ → Bool
 has_ports Tcp protocol = protocol == 6
 has_ports Udp protocol = protocol == 17

@@ -1,4 +1,4 @@
--- How a tree is printed (docs/EXPRESSIONS.md, "How an expression is printed").
+-- The printed text of a tree (docs/EXPRESSIONS.md, "How an expression is printed").
 use Rattle.std.specs.Prelude.{◌/◌, ◌%◌, ◌^◌, ◌++◌, List, [], codes, ℕ}
 use Rattle.std.specs.Fmt.{decimal}
 use Rattle.filter_tree.specs.declared.arithmetic.Operator.{Operator}
@@ -49,14 +49,14 @@ printed_size One = codes "1"
 printed_size Two = codes "2"
 printed_size Four = codes "4"
 
--- a direction with the space behind it; either direction is written by no word
+-- a direction with the space after it; either direction is written by no word
 abbrev pub printed_direction : Direction → List ℕ
 printed_direction Source = codes "src "
 printed_direction Destination = codes "dst "
 printed_direction Either = []
 printed_direction Both = codes "src and dst "
 
--- a protocol that is named with the space behind it
+-- a named protocol with the space after it
 abbrev pub printed_transport : Transport → List ℕ
 printed_transport Tcp = codes "tcp "
 printed_transport Udp = codes "udp "
@@ -87,12 +87,12 @@ printed_primitive (PortRange transport direction n m) =
 printed_primitive (AtMost n) = codes "less " ++ decimal n
 printed_primitive (AtLeast n) = codes "greater " ++ decimal n
 
--- what stands beside an operator: the gap, but nothing beside `/`
+-- the text beside an operator: the gap, but nothing beside `/`
 abbrev pub beside : Operator → List ℕ → List ℕ
 beside Divide gap = []
 beside _ gap = gap
 
--- an operation stands in parentheses. The gap between tokens is a space, and nothing inside an accessor's brackets
+-- an operation is in parentheses. The gap between tokens is a space, and nothing inside an accessor's brackets
 abbrev pub printed_arith : List ℕ → ArithTree → List ℕ
 printed_arith gap (number n) = decimal n
 printed_arith gap packet_length = codes "len"
@@ -109,7 +109,7 @@ printed_arith gap (operation left operator right) =
     ++ gap
     ++ codes ")"
 
--- `and` and `or` stand in parentheses with their two sides
+-- `and` and `or` are in parentheses with their two sides
 abbrev pub printed : Tree → List ℕ
 printed (primitive p) = printed_primitive p
 printed (relation left relator right) =

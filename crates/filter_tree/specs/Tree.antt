@@ -1,4 +1,4 @@
--- Expression trees without an allocator: what the parser reads, the printer writes and the compiler compiles.
+-- Expression trees without an allocator, which the parser reads, the printer writes and the compiler compiles.
 use Rattle.std.specs.Prelude.{◌<◌, ◌^◌, ℕ}
 use Rattle.filter_tree.specs.declared.arithmetic.Operator.{Operator}
 use Rattle.filter_tree.specs.declared.arithmetic.Protocol.{Protocol}

@@ -7,7 +7,7 @@ use std::alloc::Allocator;
 pub enum Protocol {
     /// `ip`: the index counts from the packet's first byte.
     Ip,
-    /// `tcp`: the index counts from the first byte behind the IPv4 header, as for the two below.
+    /// `tcp`: the index counts from the first byte after the IPv4 header, as for the two below.
     Tcp,
     /// `udp`.
     Udp,
@@ -15,7 +15,7 @@ pub enum Protocol {
     Icmp,
 }
 
-/// How many bytes a packet accessor reads, as a big-endian number.
+/// The number of bytes that a packet accessor reads, as a big-endian number.
 #[derive(Clone, Copy, Debug, PartialEq, Eq)]
 pub enum Size {
     One,
@@ -32,9 +32,9 @@ pub enum Operator {
     ExclusiveOr,
     /// `&`.
     And,
-    /// `<<`; by 32 or more it gives 0.
+    /// `<<`; a shift by 32 or more gives 0.
     ShiftLeft,
-    /// `>>`; by 32 or more it gives 0.
+    /// `>>`; a shift by 32 or more gives 0.
     ShiftRight,
     /// `+`.
     Add,
@@ -42,9 +42,9 @@ pub enum Operator {
     Subtract,
     /// `*`.
     Multiply,
-    /// `/`; by 0 it fails.
+    /// `/`; a division by 0 fails.
     Divide,
-    /// `%`; by 0 it fails.
+    /// `%`; a division by 0 fails.
     Modulo,
 }
 
@@ -55,7 +55,7 @@ pub enum Arith<A: Allocator> {
     Number(u32),
     /// `len`: the packet's number of bytes.
     Length,
-    /// `udp[8 : 2]`: so many bytes of a protocol's data from an index on.
+    /// `udp[8 : 2]`: a number of bytes of a protocol's data, from an index on.
     Accessor(Protocol, Box<Arith<A>, A>, Size),
     /// An operation on its left and its right side.
     Operation(Box<Arith<A>, A>, Operator, Box<Arith<A>, A>),

@@ -8,7 +8,7 @@ use crate::arithmetic::Arith;
 use crate::expression::Expr;
 use std::alloc::Allocator;
 
-// Places a part that was copied.
+// Places a copied part.
 fn placed<T: Drop, B: Allocator + Clone>(
     alloc: &B,
     part: Result<T, OutOfMemory>,
@@ -20,7 +20,7 @@ fn placed<T: Drop, B: Allocator + Clone>(
 }
 
 impl<A: Allocator> Arith<A> {
-    /// Makes a copy, whose parts are placed by clones of `alloc`.
+    /// Makes a copy, with its parts placed by clones of `alloc`.
     pub fn clone_in<B: Allocator + Clone>(&self, alloc: B) -> Result<Arith<B>, OutOfMemory>
         ensures same_tree { IfOk result (λ copy. arith_tree_of copy ≡ arith_tree_of self.now) }
     {
@@ -47,7 +47,7 @@ impl<A: Allocator> Arith<A> {
 }
 
 impl<A: Allocator> Expr<A> {
-    /// Makes a copy, whose parts are placed by clones of `alloc`.
+    /// Makes a copy, with its parts placed by clones of `alloc`.
     pub fn clone_in<B: Allocator + Clone>(&self, alloc: B) -> Result<Expr<B>, OutOfMemory>
         ensures same_tree { IfOk result (λ copy. tree_of copy ≡ tree_of self.now) }
     {

@@ -4,7 +4,7 @@ use crate::arithmetic::Arith;
 use crate::primitive::Primitive;
 use std::alloc::Allocator;
 
-/// How a relation compares its two sides, as unsigned numbers.
+/// The comparison of a relation's two sides, as unsigned numbers.
 #[derive(Clone, Copy, Debug, PartialEq, Eq)]
 pub enum Relation {
     /// `>`.

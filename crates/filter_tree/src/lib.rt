@@ -1,8 +1,8 @@
-//! Filter expressions as trees (pcap-filter(7); docs/EXPRESSIONS.md), for every allocator: what they mean on a packet,
-//! their measures, their copies and how they are printed.
+//! Filter expressions as trees (pcap-filter(7); docs/EXPRESSIONS.md), for every allocator: their outcome on a packet,
+//! their measures, their copies and their printed text.
 //!
-//! These calls go down a tree by recursion, one call a level: whoever makes a tree bounds its depth. Contracts see a tree
-//! without its allocator.
+//! These calls recurse, one call for each level of a tree, so the maker of a tree has to bound its depth. Contracts see
+//! a tree without its allocator.
 #![tactic(auto)]
 
 ghost use Rattle.std.specs.Prelude.{◌≡◌};
@@ -35,5 +35,5 @@ pub fn limits_as_numbers()
     ensures { MAX_PACKET ≡ 65535 }
 {}
 
-/// The answer of a call that was refused memory.
+/// The error of a call whose allocation was refused.
 pub use std::alloc::AllocError as OutOfMemory;

@@ -1,5 +1,5 @@
-//! What an expression says of a packet (pcap-filter(7); docs/EXPRESSIONS.md, "What an expression means"): the plain
-//! evaluator, by the cases of the definition.
+//! The outcome of an expression on a packet (pcap-filter(7); docs/EXPRESSIONS.md, "What an expression means"): the
+//! plain evaluator, by the cases of the definition.
 
 ghost use Rattle.std.specs.Prelude.{◌≡◌, ◌↔◌, IsTrue};
 ghost use Rattle.ipv4_fields.specs.declared.header.Field.TheVariants.{Protocol as ProtocolField};
@@ -22,16 +22,17 @@ use std::alloc::Allocator;
 impl<A: Allocator> Expr<A> {
     /// Tests whether the expression accepts a packet, which begins with the first byte of its IPv4 header. Takes no memory.
     ///
-    /// It is the expression's meaning as a slow plain program, to compare compiled programs with.
+    /// This is a slow plain evaluator, to compare compiled programs with.
     pub fn accepts(&self, packet: &[u8]) -> bool
         ensures accepts { IsTrue result ↔ accepts (tree_of self.now) packet.now }
     {
         matches!(self.truth(packet), Truth::Yes)
     }
 
-    /// Tells what the expression says of a packet, which begins with the first byte of its IPv4 header. Takes no memory.
+    /// Returns the outcome of the expression on a packet, which begins with the first byte of its IPv4 header. Takes no
+    /// memory.
     ///
-    /// It is the expression's meaning as a slow plain program, to compare compiled programs with.
+    /// This is a slow plain evaluator, to compare compiled programs with.
     pub fn truth(&self, packet: &[u8]) -> Truth
         ensures truth { result ≡ truth_of (tree_of self.now) packet.now }
     {

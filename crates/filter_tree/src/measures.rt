@@ -12,7 +12,8 @@ use crate::sides::Accesses;
 use std::alloc::Allocator;
 
 impl<A: Allocator> Arith<A> {
-    /// Tells the depth: 1 for a number and `len`, else 1 more than that of the deepest part. Takes no memory.
+    /// Returns the depth: 1 for a number and `len`, otherwise 1 more than the depth of the deepest part. Takes no
+    /// memory.
     pub fn depth(&self) -> u32
         ensures depth_exact { result ≡ min (depth_of_arith (arith_tree_of self.now)) u32.MAX }
     {
@@ -24,7 +25,7 @@ impl<A: Allocator> Arith<A> {
         }
     }
 
-    /// Tells the cells: the most scratch cells that its program uses. Takes no memory.
+    /// Returns the cells: the most scratch cells that its program uses. Takes no memory.
     pub fn cells(&self) -> u32
         ensures cells_exact { result ≡ min (cells_of_arith (arith_tree_of self.now)) u32.MAX }
     {
@@ -38,7 +39,8 @@ impl<A: Allocator> Arith<A> {
 }
 
 impl<A: Allocator> Expr<A> {
-    /// Tells the depth: 1 for a primitive without arithmetic, else 1 more than that of the deepest part. Takes no memory.
+    /// Returns the depth: 1 for a primitive without arithmetic, otherwise 1 more than the depth of the deepest part.
+    /// Takes no memory.
     pub fn depth(&self) -> u32
         ensures depth_exact { result ≡ min (depth_of (tree_of self.now)) u32.MAX }
     {
@@ -51,7 +53,7 @@ impl<A: Allocator> Expr<A> {
         }
     }
 
-    /// Tells the cells: the most scratch cells that its program uses. Takes no memory.
+    /// Returns the cells: the most scratch cells that its program uses. Takes no memory.
     pub fn cells(&self) -> u32
         ensures cells_exact { result ≡ min (cells_of (tree_of self.now)) u32.MAX }
     {
@@ -64,14 +66,14 @@ impl<A: Allocator> Expr<A> {
         }
     }
 
-    /// Tells the size: the most instructions that its program has, and its charge. Takes no memory.
+    /// Returns the size: the most instructions that its program has, and its charge. Takes no memory.
     pub fn size(&self) -> u32
         ensures size_exact { result ≡ min (size_of (tree_of self.now)) u32.MAX }
     {
         self.weight().saturating_add(2)
     }
 
-    /// Tells the weight: the size without the two instructions that return. Takes no memory.
+    /// Returns the weight: the size without the two instructions that return. Takes no memory.
     pub fn weight(&self) -> u32
         ensures weight_exact { result ≡ min (weight_of (tree_of self.now)) u32.MAX }
     {

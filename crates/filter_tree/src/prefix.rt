@@ -25,8 +25,8 @@ impl Model for Prefix {
 }
 
 impl Prefix {
-    /// Makes a prefix of an address, in host order, and its number of bits. `None` exactly where that is above 32 or a bit
-    /// of the address past it is set. Takes no memory.
+    /// Makes a prefix from an address, in host order, and a number of bits. `None` if and only if that number is above
+    /// 32 or a bit of the address past the prefix is set. Takes no memory.
     pub fn new(address: u32, length: u32) -> Option<Prefix>
         ensures prefix_exact { IsSome result ↔ IsPrefix (record { address = address; bits = length }) }
         ensures parts { IfSome result (λ prefix. prefix ≡ record { address = address; bits = length }) }
@@ -41,7 +41,7 @@ impl Prefix {
         }
     }
 
-    /// Tells the address, in host order.
+    /// Returns the address, in host order.
     pub fn address(&self) -> u32
         ensures address { result ≡ self.now.address }
         ensures prefix { IsPrefix self.now }
@@ -49,7 +49,7 @@ impl Prefix {
         self.address
     }
 
-    /// Tells the number of bits, from 0 to 32.
+    /// Returns the number of bits, from 0 to 32.
     pub fn length(&self) -> u32
         ensures length { result ≡ self.now.bits }
         ensures prefix { IsPrefix self.now }

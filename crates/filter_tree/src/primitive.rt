@@ -2,14 +2,14 @@
 
 use crate::prefix::Prefix;
 
-/// Which end of a packet a primitive speaks of.
+/// The end of a packet that a primitive tests.
 #[derive(Clone, Copy, Debug, PartialEq, Eq)]
 pub enum Direction {
     /// `src`.
     Source,
     /// `dst`.
     Destination,
-    /// `src or dst`, which is also meant where no direction is written.
+    /// `src or dst`, also the default if no direction is written.
     Either,
     /// `src and dst`.
     Both,
@@ -22,7 +22,7 @@ pub enum Transport {
     Tcp,
     /// `udp`.
     Udp,
-    /// None is written: TCP, UDP or SCTP.
+    /// No protocol is written: TCP, UDP or SCTP.
     Unnamed,
 }
 

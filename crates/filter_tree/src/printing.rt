@@ -1,8 +1,9 @@
-//! How an expression is printed (docs/EXPRESSIONS.md, "How an expression is printed").
+//! The printed text of an expression (docs/EXPRESSIONS.md, "How an expression is printed").
 
 ghost use Rattle.std.specs.Prelude.{◌≡◌, ◌++◌, IfOk, OnOk, codes, string_bytes};
 ghost use Rattle.std.specs.Fmt.{decimal};
 ghost use Rattle.filter_tree.specs.Text.{beside, printed, printed_address, printed_arith, printed_direction, printed_operator, printed_primitive, printed_protocol, printed_relation, printed_size, printed_transport};
+ghost use Rattle.filter_tree.specs.declared.primitive.Primitive.TheVariants.{Host, Net};
 ghost use Rattle.filter_tree.specs.Tree.{IsArithInRange, IsInRange, IsPrimitiveInRange};
 ghost use Rattle.filter_tree.specs.body.Connective.{printed_connective};
 ghost use Rattle.filter_tree.specs.View.{arith_tree_of, tree_of};
@@ -10,6 +11,7 @@ ghost use Rattle.filter_tree.specs.View.{arith_tree_of, tree_of};
 use crate::OutOfMemory;
 use crate::arithmetic::{Arith, Operator, Protocol, Size};
 use crate::expression::{Expr, Relation};
+use crate::prefix::Prefix;
 use crate::primitive::{Direction, Primitive, Transport};
 use std::alloc::Allocator;
 
@@ -128,6 +130,29 @@ fn print_address<B: Allocator>(text: &mut String<B>, address: u32) -> Result<(),
     write!(text, "{a}.{b}.{c}.{d}")
 }
 
+fn print_host<B: Allocator>(
+    text: &mut String<B>,
+    direction: Direction,
+    address: u32,
+) -> Result<(), OutOfMemory>
+    ensures { OnOk result (string_bytes text.new ≡ string_bytes text.old ++ printed_primitive (Host direction address)) }
+{
+    write!(text, "{}host ", direction_text(direction))?;
+    print_address(text, address)
+}
+
+fn print_net<B: Allocator>(
+    text: &mut String<B>,
+    direction: Direction,
+    prefix: Prefix,
+) -> Result<(), OutOfMemory>
+    ensures { OnOk result (string_bytes text.new ≡ string_bytes text.old ++ printed_primitive (Net direction prefix)) }
+{
+    write!(text, "{}net ", direction_text(direction))?;
+    print_address(text, prefix.address())?;
+    write!(text, "/{}", prefix.length())
+}
+
 fn print_primitive<B: Allocator>(
     text: &mut String<B>,
     primitive: Primitive,
@@ -138,27 +163,15 @@ fn print_primitive<B: Allocator>(
     match primitive {
         Primitive::Ip => text.push_str("ip"),
         Primitive::Proto(n) => write!(text, "ip proto {n}"),
-        Primitive::Host(direction, address) => {
-            text.push_str(direction_text(direction))?;
-            text.push_str("host ")?;
-            print_address(text, address)
-        }
-        Primitive::Net(direction, prefix) => {
-            text.push_str(direction_text(direction))?;
-            text.push_str("net ")?;
-            print_address(text, prefix.address())?;
-            text.push_str("/")?;
-            print_number(text, prefix.length())
-        }
+        Primitive::Host(direction, address) => print_host(text, direction, address),
+        Primitive::Net(direction, prefix) => print_net(text, direction, prefix),
         Primitive::Port(transport, direction, n) => {
-            text.push_str(transport_text(transport))?;
-            text.push_str(direction_text(direction))?;
-            write!(text, "port {n}")
+            let (transport, direction) = (transport_text(transport), direction_text(direction));
+            write!(text, "{transport}{direction}port {n}")
         }
         Primitive::PortRange(transport, direction, n, m) => {
-            text.push_str(transport_text(transport))?;
-            text.push_str(direction_text(direction))?;
-            write!(text, "portrange {n}-{m}")
+            let (transport, direction) = (transport_text(transport), direction_text(direction));
+            write!(text, "{transport}{direction}portrange {n}-{m}")
         }
         Primitive::AtMost(n) => write!(text, "less {n}"),
         Primitive::AtLeast(n) => write!(text, "greater {n}"),

@@ -1,4 +1,4 @@
-//! What the accessors on the two sides of a relation read.
+//! The protocols whose data the accessors on the two sides of a relation read.
 
 ghost use Rattle.std.specs.Prelude.{◌≡◌, ◌+◌, ◌||◌, false, min};
 ghost use Rattle.filter_tree.specs.declared.arithmetic.Protocol.TheVariants.{Icmp, Ip, Tcp, Udp};
@@ -10,7 +10,7 @@ ghost use Rattle.filter_tree.specs.View.{arith_tree_of};
 use crate::arithmetic::{Arith, Protocol};
 use std::alloc::Allocator;
 
-/// Which protocols' data accessors read.
+/// The protocols whose data accessors read.
 #[derive(Clone, Copy, Debug, PartialEq, Eq)]
 pub struct Accesses {
     pub ip: bool,
@@ -20,7 +20,7 @@ pub struct Accesses {
 }
 
 impl Accesses {
-    /// Tells those of a relation with these two sides. Goes over each side once, and takes no memory.
+    /// Returns those of a relation with these two sides. Visits each side once, and takes no memory.
     pub fn of_both<A: Allocator>(left: &Arith<A>, right: &Arith<A>) -> Accesses
         ensures ip { result.ip ≡ accesses_of_both (arith_tree_of left.now) (arith_tree_of right.now) Ip }
         ensures tcp { result.tcp ≡ accesses_of_both (arith_tree_of left.now) (arith_tree_of right.now) Tcp }
@@ -30,7 +30,7 @@ impl Accesses {
         Accesses::weigh_both(left, right).0
     }
 
-    /// The same, and the weight of both sides.
+    /// Returns the same, and the weight of both sides.
     #[inline(always)]
     pub(crate) fn weigh_both<A: Allocator>(left: &Arith<A>, right: &Arith<A>) -> (Accesses, u32)
         ensures ip { result.0.ip ≡ accesses_of_both (arith_tree_of left.now) (arith_tree_of right.now) Ip }
@@ -45,7 +45,7 @@ impl Accesses {
         (used, left.saturating_add(right))
     }
 
-    /// Tests whether any of them is a transport protocol's, `tcp`, `udp` or `icmp`.
+    /// Tests whether any of them is a transport protocol: `tcp`, `udp` or `icmp`.
     pub fn any_transport(self) -> bool
         ensures any { result ≡ any_transport (used_by self) }
     {
@@ -59,7 +59,7 @@ impl Accesses {
         self.ip || self.any_transport()
     }
 
-    // Adds those of a side of a relation, and tells its weight. Mostly a side is a number, which needs no call.
+    // Adds those of a side of a relation, and returns its weight. Usually a side is a number, which needs no call.
     #[inline(always)]
     fn weigh<A: Allocator>(&mut self, side: &Arith<A>) -> u32
         ensures ip { self.new.ip ≡ (accesses (arith_tree_of side.now) Ip || self.old.ip) }
@@ -74,7 +74,7 @@ impl Accesses {
         }
     }
 
-    // Adds those of an arithmetic expression, and tells its weight. A part that is a number needs no call.
+    // Adds those of an arithmetic expression, and returns its weight. A part that is a number needs no call.
     fn add<A: Allocator>(&mut self, arith: &Arith<A>) -> u32
         ensures ip { self.new.ip ≡ (accesses (arith_tree_of arith.now) Ip || self.old.ip) }
         ensures tcp { self.new.tcp ≡ (accesses (arith_tree_of arith.now) Tcp || self.old.tcp) }

@@ -3,7 +3,7 @@
 ghost use Rattle.std.specs.Prelude.{◌≡◌};
 ghost use Rattle.filter_tree.specs.Outcome.{◌and_then◌, ◌or_else◌, answer, opposite};
 
-/// What an expression, or a test in it, says of a packet.
+/// The outcome of an expression, or of a test in it, on a packet.
 #[derive(Clone, Copy, Debug, PartialEq, Eq)]
 pub enum Truth {
     Yes,

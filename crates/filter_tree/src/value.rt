@@ -88,9 +88,9 @@ fn load(protocol: Protocol, index: u32, size: Size, packet: &[u8]) -> Option<u32
 }
 
 impl<A: Allocator> Arith<A> {
-    /// Tells the value on a packet, `None` where a load passes the packet's end or a divisor is 0. Takes no memory.
+    /// Returns the value on a packet, `None` if a load passes the packet's end or a divisor is 0. Takes no memory.
     ///
-    /// It is the meaning as a slow plain program, to compare compiled programs with.
+    /// This is a slow plain evaluator, to compare compiled programs with.
     pub fn value(&self, packet: &[u8]) -> Option<u32>
         ensures value { result ≡ value_of_arith (arith_tree_of self.now) packet.now }
     {

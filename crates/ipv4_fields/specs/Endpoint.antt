@@ -14,7 +14,7 @@ pub record IsEndpoint (endpoint : Endpoint) : Type 0 where
   pub address : endpoint.address < 2 ^ 32
   pub port : endpoint.port < 2 ^ 16
 
--- the IP address is of IPv4, with the bytes of the endpoint's address, the high byte first
+-- the IP address is IPv4, with the bytes of the endpoint's address, the high byte first
 abbrev pub HasBytesOf : Endpoint → IpAddr → Type 0
 HasBytesOf endpoint address = IsV4And address (λ ip. ipv4_octets ip ≡ to_be_bytes w32 endpoint.address)
 

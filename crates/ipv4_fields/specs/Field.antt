@@ -8,16 +8,16 @@ abbrev pub big_endian_after : ℕ → List ℕ → ℕ
 big_endian_after n [] = n
 big_endian_after n (byte ∷ bytes) = big_endian_after (n * 256 + byte) bytes
 
--- the big-endian number of the n bytes from a place on, none where the packet lacks one of them
+-- the big-endian number of the n bytes from a place on, none if the packet lacks one of them
 abbrev pub number_at : ℕ → List ℕ → ℕ → Option ℕ
 number_at n packet place =
     if nat_le (place + n) (length packet) then Some (big_endian_after 0 (take n (drop place packet))) else None
 
--- so many bits of a number, from a bit on, the lowest being bit 0
+-- this many bits of a number, from a bit on, the lowest being bit 0
 abbrev pub bits_from : ℕ → ℕ → ℕ → ℕ
 bits_from bit count n = n / 2 ^ bit % 2 ^ count
 
--- how many words of four bytes the IPv4 header has
+-- the number of words of four bytes of the IPv4 header
 abbrev pub ihl_of : List ℕ → Option ℕ
 ihl_of packet = option_map (bits_from 0 4) (number_at 1 packet 0)
 
@@ -25,7 +25,7 @@ ihl_of packet = option_map (bits_from 0 4) (number_at 1 packet 0)
 abbrev pub behind_header : List ℕ → ℕ → Option ℕ
 behind_header packet offset = option_and_then (λ ihl. number_at 2 packet (4 * ihl + offset)) (ihl_of packet)
 
--- a field's value, none where the packet lacks a byte of it
+-- a field's value, none if the packet lacks a byte of it
 unfoldable pub field_of : Field → List ℕ → Option ℕ
 field_of Version packet = option_map (bits_from 4 4) (number_at 1 packet 0)
 field_of Ihl packet = ihl_of packet

@@ -1,4 +1,4 @@
-//! Which packets are one whole UDP datagram (RFC 791, section 3.1; RFC 768, "Format").
+//! The test whether a packet is one whole UDP datagram (RFC 791, section 3.1; RFC 768, "Format").
 
 ghost use Rattle.std.specs.Prelude.{◌≡◌, ◌<◌, ◌≤◌, ◌+◌, ◌*◌, ◌↔◌, IfSome, IsSome, length};
 ghost use Rattle.ipv4_fields.specs.declared.header.Field.TheVariants.{Destination, DestinationPort, FragmentOffset, Ihl, MoreFragments, Protocol, Source, SourcePort, TotalLength, UdpLength, Version};
@@ -7,8 +7,8 @@ ghost use Rattle.ipv4_fields.specs.Dispatchable.{IsDispatchable, IsFlowOf, field
 use crate::endpoint::{Endpoint, Flow};
 use byteorder::{ByteOrder, NetworkEndian};
 
-/// The two ends of a packet that is one whole UDP datagram over IPv4, as its own length fields tell
-/// (RFC 791, section 3.1; RFC 768, "Format").
+/// Returns the two ends of a packet that is one whole UDP datagram over IPv4 by its own length fields (RFC 791, section
+/// 3.1; RFC 768, "Format").
 ///
 /// `packet` begins with the first byte of the IPv4 header; addresses and ports are in host order. Reads no checksum.
 #[tactic(auto, using(crate::proofs::FlowLemmas::flow_exact, crate::proofs::FlowLemmas::ends))]

@@ -16,7 +16,7 @@ pub struct Endpoint {
 }
 
 impl Endpoint {
-    /// Tells the number by which endpoints are ordered, `address * 65536 + port`.
+    /// Returns the number by which endpoints are ordered, `address * 65536 + port`.
     pub fn number(self) -> u64
         ensures { result ≡ endpoint_number self }
     {
@@ -43,7 +43,7 @@ impl Endpoint {
         SocketAddr::new(IpAddr::V4(Ipv4Addr::from(self.address)), self.port)
     }
 
-    /// Returns the endpoint of a socket address, `None` if that is of IPv6.
+    /// Returns the endpoint of a socket address, `None` if it is IPv6.
     pub fn from_socket_address(address: SocketAddr) -> Option<Endpoint>
         ensures address { IfSome result (λ endpoint. HasBytesOf endpoint (socket_ip address)) }
         ensures port { IfSome result (λ endpoint. endpoint.port ≡ socket_port address) }
@@ -59,7 +59,7 @@ impl Endpoint {
     }
 }
 
-/// Where a datagram comes from and where it goes.
+/// The source and the destination of a datagram.
 #[derive(Clone, Copy, Debug, PartialEq, Eq)]
 pub struct Flow {
     pub source: Endpoint,

@@ -1,6 +1,6 @@
 //! The header fields of a UDP datagram over IPv4 (RFC 791, section 3.1; RFC 768, "Format").
 
-/// A field of the IPv4 header or, behind it, of the UDP header.
+/// A field of the IPv4 header or of the UDP header after it.
 #[derive(Clone, Copy, Debug, PartialEq, Eq)]
 pub enum Field {
     /// The high four bits of byte 0.

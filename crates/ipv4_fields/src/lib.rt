@@ -1,6 +1,6 @@
-//! The header fields of UDP datagrams over IPv4, which packets are dispatched (RFC 791, section 3.1; RFC 768, "Format";
-//! docs/SWITCH.md, "Which packets are dispatched"); and endpoints as numbers, as socket addresses and as texts, with the decimal
-//! numbers of these texts. No call takes memory.
+//! The header fields of UDP datagrams over IPv4, and the test whether a packet is dispatched (RFC 791, section 3.1; RFC
+//! 768, "Format"; docs/SWITCH.md, "Which packets are dispatched"). Also endpoints as numbers, as socket addresses and
+//! as texts, with the decimal numbers of these texts. No call takes memory.
 #![tactic(auto)]
 
 ghost use Rattle.std.specs.Prelude.{◌≡◌, ◌≤◌, ◌+◌, length};
@@ -17,10 +17,10 @@ pub use endpoint::{Endpoint, Flow, ordered_by_number};
 pub use header::Field;
 pub use text::{ENDPOINT_LIMIT, TextBuffer, read_number, split_at};
 
-/// Reads a header field of a packet, `None` exactly where the packet lacks a byte of it.
+/// Reads a header field of a packet. `None` if and only if the packet lacks a byte of the field.
 ///
 /// `packet` begins with the first byte of the IPv4 header; addresses and ports are in host order. The ports and the UDP
-/// length stand at 4 * IHL, whatever the IHL and the other fields are.
+/// length are read from place 4 * IHL on, whatever the IHL and the other fields are.
 #[tactic(auto, unfolding(crate::specs::Field::field_of))]
 pub fn field(name: Field, packet: &[u8]) -> Option<u32>
     ensures field_exact { result ≡ field_of name packet.now }

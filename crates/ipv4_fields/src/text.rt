@@ -1,4 +1,4 @@
-//! Endpoints as texts, `a.b.c.d:p`, both ways, and the pieces that such a text is read by.
+//! Endpoints as texts, `a.b.c.d:p`: writing them, reading them, and reading the parts of such a text.
 
 ghost use Rattle.std.specs.Prelude.{◌≡◌, ◌≢◌, ◌+◌, ◌≤◌, ◌<◌, ◌↔◌, IsTrue, MatchOption, List, ◌++◌, ◌∷◌, decimal, length, ℕ};
 ghost use Rattle.ipv4_fields.specs.Endpoint.{IsEndpoint, endpoint_text};
@@ -8,7 +8,7 @@ ghost use Rattle.ipv4_fields.specs.body.Number.{IsNoDigit, IsPlain};
 
 use crate::endpoint::Endpoint;
 
-/// Cuts a text at the first separator in it.
+/// Splits a text at the first separator in it.
 pub fn split_at(separator: u8, text: &[u8]) -> Option<(&[u8], &[u8])>
     ensures { MatchOption result (Lacks separator text.now) (λ parts. IsSplitAt separator text.now parts.0.now parts.1.now) }
 {
@@ -29,7 +29,7 @@ fn is_plain(field: &[u8]) -> bool
     !field.is_empty() && field.len() <= NUMBER_LIMIT && (field.len() == 1 || field[0] != b'0')
 }
 
-// The number that few digits write, `None` where a byte is no digit.
+// Returns the number that a few digits spell, `None` if a byte is not a digit.
 #[inline(always)]
 fn number_of(field: &[u8]) -> Option<u64>
     requires { length field.now ≤ NUMBER_LIMIT }
@@ -63,7 +63,7 @@ pub fn read_number(limit: u32, field: &[u8]) -> Option<u32>
     Some(number as u32)
 }
 
-// A part of an address and what stands behind its separator.
+// Reads a part of an address; returns it and the text after its separator.
 fn read_part(separator: u8, text: &[u8]) -> Option<(u8, &[u8])>
     requires { IsNoDigit separator }
     ensures { MatchOption result
@@ -74,7 +74,7 @@ fn read_part(separator: u8, text: &[u8]) -> Option<(u8, &[u8])>
     Some((read_number(255, part)? as u8, rest))
 }
 
-/// A text that is built piece by piece, within a limit of its length.
+/// A text that is built piece by piece, up to a limit of its length.
 pub trait TextBuffer {
     ghost text: { Self → List ℕ };
 

@@ -1,4 +1,4 @@
--- What a configuration is charged: the words that its image has at most.
+-- The charge of a configuration: the most words that its image has.
 use Rattle.std.specs.Prelude.{◌*◌, ◌+◌, ◌++◌, List, length, ℕ}
 use Rattle.std.specs.List.{filter_map, flat_map, sum_by}
 use Rattle.std.specs.Option.{option_to_list}
@@ -14,11 +14,11 @@ programs_of_group group = option_to_list group.selector ++ filter_map (λ member
 abbrev pub programs_of : {P : Type 0} → List (GroupOf P) → List P
 programs_of config = flat_map programs_of_group config
 
--- how many members the groups have in all
+-- the number of members of all groups
 abbrev pub members_of : {P : Type 0} → List (GroupOf P) → ℕ
 members_of config = sum_by (λ group. length group.members) config
 
--- 2, and 4 for each group, and 4 for each member, and what the programs are charged
+-- 2, and 4 for each group, and 4 for each member, and the charges of the programs
 abbrev pub charge_by : {P : Type 0} → (P → ℕ) → List (GroupOf P) → ℕ
 charge_by charge config =
     HEAD_WORDS + GROUP_WORDS * length config + MEMBER_WORDS * members_of config + sum_by charge (programs_of config)
@@ -27,6 +27,6 @@ charge_by charge config =
 abbrev pub charge_of : List (GroupOf ProgramValue) → ℕ
 charge_of config = charge_by (λ program. program.charge) config
 
--- what a group adds to the charge of a configuration
+-- the part of a group in the charge of a configuration
 abbrev pub charge_of_group : GroupOf ProgramValue → ℕ
 charge_of_group group = GROUP_WORDS + MEMBER_WORDS * length group.members + sum_by (λ program. program.charge) (programs_of_group group)

@@ -27,7 +27,7 @@ with_changed key change config = map (λ group. if has_key key group then change
 abbrev pub joined : {P : Type 0} → ℕ → Endpoint → GroupOf P → GroupOf P
 joined id to group = record group { members = group.members ++ record { id = id; to = to; filter = None; locked = false } ∷ [] }
 
--- the last member stands in the place of the one that leaves
+-- the last member takes the place of the one that leaves
 abbrev pub left : {P : Type 0} → ℕ → GroupOf P → GroupOf P
 left id group =
     let last = length group.members - 1 in
@@ -49,7 +49,7 @@ with_filter id filter group = with_member id (λ member. record member { filter 
 abbrev pub locked : {P : Type 0} → ℕ → GroupOf P → GroupOf P
 locked id group = with_member id (λ member. record member { locked = true }) group
 
--- what a command makes of a configuration that does not refuse it
+-- the configuration after a command that is not refused
 abbrev pub after : {P : Type 0} → Command P → List (GroupOf P) → List (GroupOf P)
 after (AddGroup key) config = with_group key config
 after (RemoveGroup key) config = without_group key config

@@ -14,7 +14,7 @@ pub record GroupOf (P : Type 0) : Type 0 where
   pub selector : Option P
   pub members : List (Member P)
 
--- keys are one where their numbers are
+-- keys are equal if their numbers are
 abbrev pub has_key : {P : Type 0} → Endpoint → GroupOf P → Bool
 has_key key group = endpoint_number group.key == endpoint_number key
 
@@ -36,8 +36,8 @@ pub record IsMember (member : Member ProgramValue) : Type 0 where
   pub to : IsEndpoint member.to
   pub filter : IfSome member.filter IsProgram
 
--- the key is an endpoint, there are not more than so many members, with numbers of their own, and the selector is a program
--- that the verifier accepted
+-- the key is an endpoint, there are at most this many members, with numbers of their own, and the selector is a program that the
+-- verifier accepted
 pub record IsGroup (group : GroupOf ProgramValue) : Type 0 where
   pub key : IsEndpoint group.key
   pub limited : length group.members ≤ MEMBER_LIMIT
@@ -45,7 +45,7 @@ pub record IsGroup (group : GroupOf ProgramValue) : Type 0 where
   pub selector : IfSome group.selector IsProgram
   pub members : All IsMember group.members
 
--- not more than so many groups, in rising order of key
+-- at most this many groups, in rising order of key
 pub record IsConfig (config : List (GroupOf ProgramValue)) : Type 0 where
   pub limited : length config ≤ GROUP_LIMIT
   pub rising : AllPairs (λ group other. endpoint_number group.key < endpoint_number other.key) config

@@ -1,4 +1,4 @@
--- A configuration as a finite map from keys to groups: what a command makes of the map at its key.
+-- A configuration as a finite map from keys to groups: the effect of a command on the map at its key.
 use Rattle.std.specs.Prelude.{◌≡◌, ◌≢◌, List, None, Option, Some, []}
 use Rattle.std.specs.Option.{option_map}
 use Rattle.bpf_verify.specs.Program.{ProgramValue}
@@ -21,7 +21,7 @@ key_of (SetFilter key member program) = key
 key_of (ClearFilter key member) = key
 key_of (LockFilter key member) = key
 
--- what a command makes of what the map has at its key
+-- the group after a command, from the group that the map has at the command's key
 abbrev pub group_after : {P : Type 0} → Command P → Option (GroupOf P) → Option (GroupOf P)
 group_after (AddGroup key) found = Some (record { key = key; selector = None; members = [] })
 group_after (RemoveGroup key) found = None
@@ -33,13 +33,13 @@ group_after (SetFilter key member program) found = option_map (with_filter membe
 group_after (ClearFilter key member) found = option_map (with_filter member None) found
 group_after (LockFilter key member) found = option_map (locked member) found
 
--- at its key a command leaves what it makes of what was there
+-- at its key a command leaves the group of `group_after`
 abbrev pub ChangesTheMapAtItsKey : Type 0
 ChangesTheMapAtItsKey =
     (command : Command ProgramValue) (config : List (GroupOf ProgramValue)) →
     group_of (key_of command) (after command config) ≡ group_after command (group_of (key_of command) config)
 
--- and leaves what the map has at every other key
+-- a command keeps the groups at all other keys
 abbrev pub KeepsTheMapElsewhere : Type 0
 KeepsTheMapElsewhere =
     (command : Command ProgramValue) (config : List (GroupOf ProgramValue)) (other : Endpoint) →

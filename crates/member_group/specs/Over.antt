@@ -1,4 +1,4 @@
--- Configurations and commands over programs of another kind: all stays but the programs.
+-- Configurations and commands over programs of another kind: everything is kept except the programs.
 use Rattle.std.specs.Prelude.{List, map, option_map}
 use Rattle.member_group.specs.declared.command.Command.{Command}
 use Rattle.member_group.specs.declared.command.Command.TheVariants.{AddGroup, ClearFilter, ClearSelector, Join, Leave, LockFilter, RemoveGroup, SetFilter, SetSelector}

@@ -1,4 +1,4 @@
--- Where a group or a member stands in its list.
+-- The place of a group or a member in its list.
 use Rattle.std.specs.Prelude.{◌≡◌, ◌++◌, ◌<◌, ◌+◌, ◌-◌, ◌≢◌, ◌≤◌, if◌then◌else◌, Bool, List, drop, false, length, nat_lt, slice_index_or, slice_range, take, true, ℕ}
 use Rattle.std.specs.List.{All}
 use Rattle.ipv4_fields.specs.declared.endpoint.Endpoint.{Endpoint}
@@ -21,7 +21,7 @@ pub record IsGapFor {P : Type 0} (key : Endpoint) (config : List (GroupOf P)) (p
   pub before : (k : ℕ) (d : GroupOf P) → k < place → endpoint_number (slice_index_or config k d).key < endpoint_number key
   pub behind : (k : ℕ) (d : GroupOf P) → place ≤ k → k < length config → endpoint_number key < endpoint_number (slice_index_or config k d).key
 
--- the last element stands in the place of another; where it is the other itself, it goes
+-- the last element takes the place of another; if it is the other itself, it goes
 abbrev pub last_in_gap : {X : Type 0} → ℕ → List X → List X
 last_in_gap at list =
     let last = length list - 1 in

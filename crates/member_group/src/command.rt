@@ -15,7 +15,7 @@ pub enum Command<P = Program<Global>> {
     RemoveGroup {
         key: Endpoint,
     },
-    /// Adds a member without a filter, not locked, behind those that the group has.
+    /// Adds a member without a filter, not locked, after the members that the group has.
     Join {
         key: Endpoint,
         member: u32,
@@ -31,7 +31,7 @@ pub enum Command<P = Program<Global>> {
         key: Endpoint,
         program: P,
     },
-    /// Takes the selector away.
+    /// Removes the selector.
     ClearSelector {
         key: Endpoint,
     },
@@ -41,7 +41,7 @@ pub enum Command<P = Program<Global>> {
         member: u32,
         program: P,
     },
-    /// Takes a member's filter away. The member must not be locked.
+    /// Removes a member's filter. The member must not be locked.
     ClearFilter {
         key: Endpoint,
         member: u32,

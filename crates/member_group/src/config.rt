@@ -59,7 +59,7 @@ impl<A: Allocator> Config<A> {
         self.groups.as_slice()
     }
 
-    /// Tells how many members the groups have in all.
+    /// Returns the number of members of all groups.
     pub fn members(&self) -> usize
         ensures members { result ≡ members_of self.now }
     {
@@ -70,7 +70,7 @@ impl<A: Allocator> Config<A> {
         members
     }
 
-    /// Tells the charge: 2, and 4 for each group, and 4 for each member, and the charges of the programs.
+    /// Returns the charge: 2, plus 4 for each group, plus 4 for each member, plus the charges of the programs.
     pub fn charge(&self) -> u64
         ensures charge_exact { result ≡ charge_of self.now }
         ensures config { IsConfig self.now }
@@ -100,7 +100,7 @@ fn append_groups<A: Allocator + Clone>(
     Ok(())
 }
 
-// What the commands make of a configuration: another one, which shares the groups that it keeps.
+// The results of the commands: another configuration, which shares the groups that it keeps.
 impl<A: Allocator + Clone> Config<A> {
     fn room_for_groups(&self, count: usize) -> Result<Vec<Group<A>, A>, OutOfMemory>
         ensures empty { IfOk result (λ groups. groups.items ≡ []) }
@@ -245,10 +245,10 @@ impl<A: Allocator + Clone> Config<A> {
         self.with_group_at(at, group)
     }
 
-    /// Makes the configuration that a command leaves. This one stays as it is, also where the command is refused.
+    /// Returns the configuration after a command. This one does not change, even if the command is refused.
     ///
-    /// `Err` is the first refusal of the command that docs/SWITCH.md lists, else `OutOfMemory` where a growth was refused.
-    /// The new configuration has copies of the programs that it keeps.
+    /// `Err` is the first refusal of the command in the order of docs/SWITCH.md; otherwise `OutOfMemory` if an
+    /// allocation is refused. The changed group has copies of the programs that it keeps; the other groups are shared.
     pub fn apply<B: Allocator>(&self, command: &Command<Program<B>>) -> Result<Config<A>, Refusal>
         ensures applies { IfOk result (λ config. config ≡ after command.now self.now) }
         ensures refuses_first { IfSome (first_refusal command.now self.now) (λ refusal. result ≡ Err refusal) }
@@ -272,8 +272,8 @@ impl<A: Allocator + Clone> Config<A> {
     }
 }
 
-/// States that the groups of a configuration are a finite map from keys to groups, and that each command changes the map
-/// at its own key alone.
+/// Law: the groups of a configuration are a finite map from keys to groups, and each command changes the map only at
+/// its own key.
 #[tactic(auto, using(crate::proofs::MapLemmas::changes_at_its_key, crate::proofs::MapLemmas::keeps_elsewhere, crate::proofs::MapLemmas::one_list_a_map))]
 pub fn configurations_are_maps()
     ensures changed_at_key { ChangesTheMapAtItsKey }

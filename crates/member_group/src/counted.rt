@@ -1,4 +1,4 @@
-//! What is counted of a group when it is made: its charge, and the words of its programs.
+//! The numbers that are counted when a group is made: its charge, and the words of its programs.
 
 ghost use Rattle.std.specs.Prelude.{◌≡◌, ◌+◌, ◌*◌, ◌<◌, ◌≤◌, ◌^◌, length};
 ghost use Rattle.std.specs.List.{sum_by};
@@ -33,7 +33,7 @@ pub(crate) fn words_of_program<A: Allocator>(program: &Option<Program<A>>) -> us
     }
 }
 
-/// Counts the charge of a group of such parts, whatever its key.
+/// Returns the charge of a group with these parts, whatever its key.
 pub(crate) fn charge_of_parts<A: Allocator>(
     selector: &Option<Program<A>>,
     members: &[Member<Program<A>>],
@@ -49,7 +49,7 @@ pub(crate) fn charge_of_parts<A: Allocator>(
     charge
 }
 
-/// Counts the words of the programs of such a group.
+/// Returns the number of words of the programs of such a group.
 pub(crate) fn words_of_parts<A: Allocator>(
     selector: &Option<Program<A>>,
     members: &[Member<Program<A>>],

@@ -1,4 +1,4 @@
-//! Groups, and what the commands change in one of them.
+//! Groups, and the changes that commands make in one of them.
 
 ghost use Rattle.std.specs.Prelude.{◌≡◌, ◌+◌, ◌*◌, ◌<◌, ◌≤◌, ◌^◌, IfOk, None, Some, [], length, slice_set, ℕ};
 ghost use Rattle.std.specs.List.{sum_by};
@@ -27,8 +27,8 @@ use std::alloc::Allocator;
 use std::marker::Model;
 use std::sync::Arc;
 
-// What a group is made of, its charge, and how many words its programs have. The two numbers are kept because a publication asks each
-// group for them.
+// The parts of a group, its charge, and the number of words of its programs. The two numbers are kept because a
+// publication asks each group for them.
 #[derive(Drop)]
 struct Parts<A: Allocator> {
     key: Endpoint,
@@ -66,7 +66,7 @@ impl<A: Allocator> Parts<A> {
     }
 }
 
-/// A group: its key, its selector or none, and its members in the order of their indexes.
+/// A group: its key, its selector if it has one, and its members in the order of their indexes.
 ///
 /// Configurations share the groups that they have in common, with their programs. A group that is shared never changes.
 #[derive(Drop)]
@@ -85,7 +85,7 @@ impl<A: Allocator> Model for Group<A> {
 }
 
 impl<A: Allocator> Group<A> {
-    /// Tells the key.
+    /// Returns the key.
     pub fn key(&self) -> Endpoint
         ensures key { result ≡ self.now.key }
     {
@@ -106,7 +106,7 @@ impl<A: Allocator> Group<A> {
         self.parts.members.as_slice()
     }
 
-    /// Tells how many words its programs have in all. It was counted when the group was made.
+    /// Returns the number of words of all its programs. The number is kept with the group, not counted again.
     pub fn program_words(&self) -> usize
         ensures words { result ≡ sum_by (λ program. length program.words) (programs_of_group self.now) }
         ensures limited { result ≤ (1 + MEMBER_LIMIT) * MAX_INSTRUCTIONS }
@@ -122,7 +122,7 @@ impl<A: Allocator> Group<A> {
     }
 }
 
-// What the commands make of a group: another group, with copies of the programs that it keeps.
+// The results of the commands: another group, with copies of the programs that it keeps.
 impl<A: Allocator + Clone> Group<A> {
     fn allocator(&self) -> &A {
         self.parts.members.allocator()
@@ -206,7 +206,7 @@ impl<A: Allocator + Clone> Group<A> {
         self.with_members(members)
     }
 
-    // The last member stands in the gap of the member at a place.
+    // The last member takes the place of the one that is removed.
     fn without_member(&self, at: usize) -> Result<Group<A>, OutOfMemory>
         requires few { length self.now.members ≤ MEMBER_LIMIT }
         requires inside { at < length self.now.members }

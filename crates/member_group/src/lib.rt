@@ -1,8 +1,8 @@
 //! The configuration of the switch: groups of members, named by a destination address and port, with their selector and
 //! filter programs, and the commands that change it (socket(7); docs/SWITCH.md, "Groups, members, commands and refusals").
 //!
-//! `Config::apply` makes the next configuration of one that stays as it is, and `Config::change` changes one in place. Only these two
-//! and `Config::copy` take memory.
+//! `Config::apply` makes the next configuration from one that does not change, and `Config::change` changes one in
+//! place. Only these two and `Config::copy` take memory.
 #![tactic(auto)]
 
 ghost use Rattle.std.specs.Prelude.{◌≡◌};
@@ -27,16 +27,16 @@ pub const GROUP_LIMIT: usize = 64;
 /// The greatest number of members of a group.
 pub const MEMBER_LIMIT: usize = 64;
 
-/// What a configuration counts for itself, in words of its image.
+/// The charge of a configuration for itself, in words of its image.
 pub const HEAD_WORDS: usize = 2;
 
-/// What a configuration counts for a group, beside its members and programs.
+/// The charge of a group, without its members and programs.
 pub const GROUP_WORDS: usize = 4;
 
-/// What a configuration counts for a member, beside its filter.
+/// The charge of a member, without its filter.
 pub const MEMBER_WORDS: usize = 4;
 
-/// Law: the limits and what is counted, as numbers. It runs nothing.
+/// Law: the limits and the charges, as numbers. It runs nothing.
 pub fn limits_as_numbers()
     ensures groups { GROUP_LIMIT ≡ 64 }
     ensures members { MEMBER_LIMIT ≡ 64 }

@@ -7,8 +7,8 @@ use bpf_verify::{OutOfMemory, Program};
 use ipv4_fields::Endpoint;
 use std::alloc::Allocator;
 
-/// A member of a group: its number, which no other member of the group has, where its packets are sent, its filter
-/// or none, and whether it is locked, so that no command changes or clears its filter.
+/// A member of a group: its number, which no other member of the group has; the endpoint to which its packets are sent;
+/// its filter, if it has one; and whether it is locked, so that no command changes or clears its filter.
 #[derive(Drop)]
 pub struct Member<P> {
     pub id: u32,
@@ -56,7 +56,7 @@ pub(crate) fn append_members<A: Allocator + Clone>(
     Ok(())
 }
 
-// Appends all members but the one at a place, with the last of them in the gap.
+// Appends all members except the one at a place, with the last of them in the gap.
 pub(crate) fn append_with_last_in_gap<A: Allocator + Clone>(
     to: &mut Vec<Member<Program<A>>, A>,
     from: &[Member<Program<A>>],

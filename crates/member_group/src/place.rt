@@ -12,7 +12,7 @@ use bpf_verify::Program;
 use ipv4_fields::Endpoint;
 use std::alloc::Allocator;
 
-// The place of a key's group, or else the place where it would stand.
+// Returns the place of a key's group or, if there is none, the place where it would be inserted.
 pub(crate) fn place_of_key<A: Allocator>(groups: &[Group<A>], key: Endpoint) -> Result<usize, usize>
     requires config { IsConfig groups.now }
     ensures found { IfOk result (IsOnlyAt (has_key key) groups.now) }
@@ -31,7 +31,7 @@ pub(crate) fn place_of_key<A: Allocator>(groups: &[Group<A>], key: Endpoint) -> 
     Err(groups.len())
 }
 
-// The place of the member of a number.
+// Returns the place of the member with a number.
 pub(crate) fn place_of_member<A: Allocator>(
     members: &[Member<Program<A>>],
     id: u32,

@@ -7,8 +7,8 @@ ghost use Rattle.member_group.specs.declared.refusal.Refusal.TheVariants.{OutOfM
 use fault_code::Code;
 use std::alloc::{AllocError, AllocFailed};
 
-/// Why a command is refused. A variant says what is wrong with the command; of several causes, docs/SWITCH.md tells the
-/// order for each command.
+/// Why a command is refused. A variant says what is wrong with the command; if several are true, docs/SWITCH.md gives
+/// their order for each command.
 #[derive(Clone, Copy, Debug, PartialEq, Eq)]
 pub enum Refusal {
     /// There is no group with the key.
@@ -27,12 +27,12 @@ pub enum Refusal {
     Locked,
     /// There is no program to clear.
     NoProgram,
-    /// The memory of the new configuration was refused.
+    /// An allocation for the new configuration was refused.
     OutOfMemory,
 }
 
 impl Refusal {
-    /// The code (docs/COMMANDS.md, "Refusals").
+    /// Returns the code (docs/COMMANDS.md, "Refusals").
     pub fn code(self) -> Code
         ensures { result ≡ command_code self }
     {

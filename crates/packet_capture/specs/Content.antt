@@ -1,4 +1,4 @@
--- What a record holds: an IPv4 packet, a packet that was cut, or something else (docs/COMMANDS.md, "packets").
+-- The content of a record: an IPv4 packet, a packet that was cut, or something else (docs/COMMANDS.md, "packets").
 use Rattle.std.specs.Prelude.{◌≡◌, List, ℕ}
 use Rattle.packet_capture.specs.declared.content.Content.{Content}
 use Rattle.packet_capture.specs.declared.content.Content.TheVariants.{Cut, Other, Packet}
@@ -7,7 +7,7 @@ use Rattle.packet_capture.specs.declared.order.Order.{Order}
 use Rattle.packet_capture.specs.LinkLayer.{MayHoldIpv4, behind_link_header}
 use Rattle.packet_capture.specs.Packet.{BeginsWithPacket, IsCutPacket, IsIpv4SoFar}
 
--- the packet stands behind a link header that names IPv4
+-- the packet comes after a link header that names IPv4
 pub record HoldsPacket (link_type : LinkType) (order : Order) (captured packet : List ℕ) : Type 0 where
   pub protocol : MayHoldIpv4 link_type order captured
   pub begins : BeginsWithPacket (behind_link_header link_type captured) packet
@@ -27,7 +27,7 @@ IsContent link_type order captured (Packet packet) = HoldsPacket link_type order
 IsContent link_type order captured Cut = IsCut link_type order captured
 IsContent link_type order captured Other = IsOther link_type order captured
 
--- a record holds at most one of them
+-- a record has at most one of them
 pub record HasOneContent (link_type : LinkType) (order : Order) (captured : List ℕ) : Type 0 where
   pub one_packet : (a b : List ℕ) → HoldsPacket link_type order captured a → HoldsPacket link_type order captured b → a ≡ b
   pub packet_not_cut : (packet : List ℕ) → HoldsPacket link_type order captured packet → IsCut link_type order captured → ⊥

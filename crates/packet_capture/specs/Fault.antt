@@ -1,4 +1,4 @@
--- Why the header of a capture file is not read (docs/COMMANDS.md, "Refusals"). The faults are told in this order.
+-- Why the header of a capture file is not read (docs/COMMANDS.md, "Refusals"). The faults are reported in this order.
 use Rattle.std.specs.Prelude.{◌≡◌, ◌≢◌, ◌≤◌, ◌<◌, ◌⊎◌, IsSome, List, None, Some, length, ℕ}
 use Rattle.packet_capture.specs.declared.fault.HeaderFault.{HeaderFault}
 use Rattle.packet_capture.specs.declared.fault.HeaderFault.TheVariants.{Cut, LinkType, Magic, Pcapng, Version}
@@ -30,7 +30,7 @@ pub record IsVersion (order : Order) (bytes : List ℕ) : Type 0 where
   pub major : number_at order 2 bytes 4 ≡ 2
   pub minor : number_at order 2 bytes 6 ≡ 4
 
--- a link type that is not read
+-- a link type that is not supported
 pub record IsUnreadLinkType (number : ℕ) (order : Order) (bytes : List ℕ) : Type 0 where
   pub version : IsVersion order bytes
   pub number_is : number ≡ link_number order bytes

@@ -7,8 +7,8 @@ use Rattle.packet_capture.specs.declared.order.Order.{Order}
 use Rattle.packet_capture.specs.declared.order.Order.TheVariants.{Big, Little}
 use Rattle.packet_capture.specs.Number.{number_at}
 
--- the byte order that the first four bytes tell, high byte first: the magic number is a1b2c3d4 where times are in microseconds,
--- and a1b23c4d where they are in nanoseconds
+-- the byte order of the first four bytes, high byte first: the magic number is a1b2c3d4 if times are in microseconds, and
+-- a1b23c4d if they are in nanoseconds
 abbrev pub order_of : ℕ → Option Order
 order_of magic =
     if (magic == 0xa1b2_c3d4) || (magic == 0xa1b2_3c4d)
@@ -17,7 +17,7 @@ order_of magic =
     then Some Little
     else None
 
--- the link types that are read, by their numbers (tcpdump.org/linktypes.html); 12 and 14 are numbers of DLT_RAW
+-- the supported link types, by their numbers (tcpdump.org/linktypes.html); 12 and 14 are numbers of DLT_RAW
 abbrev pub link_type_of : ℕ → Option LinkType
 link_type_of number =
     if number == 0
@@ -38,7 +38,7 @@ link_type_of number =
 abbrev pub link_number : Order → List ℕ → ℕ
 link_number order bytes = number_at order 4 bytes 20 % 2 ^ 16
 
--- the first 24 bytes are the header of a capture file of version 2.4, and tell a link type that is read
+-- the first 24 bytes are the header of a capture file of version 2.4, with a link type that is supported
 pub record IsFileHeader (bytes : List ℕ) (header : FileHeader) : Type 0 where
   pub complete : 24 ≤ length bytes
   pub magic : order_of (number_at Big 4 bytes 0) ≡ Some header.order

@@ -9,6 +9,6 @@ unfoldable pub number_at : Order → ℕ → List ℕ → ℕ → ℕ
 number_at Big n bytes place = big_number n (drop place bytes)
 number_at Little n bytes place = little_number n (drop place bytes)
 
--- the same, none where a byte of it is missing
+-- the same, none if a byte of it is missing
 abbrev pub field_at : Order → ℕ → List ℕ → ℕ → Option ℕ
 field_at order n bytes place = if nat_le (place + n) (length bytes) then Some (number_at order n bytes place) else None

@@ -1,4 +1,4 @@
--- What `packets` writes (docs/COMMANDS.md, "packets").
+-- The output of `packets` (docs/COMMANDS.md, "packets").
 use Rattle.std.specs.Prelude.{◌≡◌, ◌≢◌, ◌++◌, ◌⊎◌, List, None, Option, Some, [], codes, decimal, drop, ℕ}
 use Rattle.std.specs.Io.KnownBytes.{Appends}
 use Rattle.std.specs.List.{flat_map}
@@ -19,11 +19,11 @@ use Rattle.hex.specs.Hex.{encode_lower}
 abbrev pub packet_line : List ℕ → List ℕ
 packet_line packet = codes "packet " ++ encode_lower packet ++ codes "\n"
 
--- the lines of the packets among what records hold; if a port is given, of the packets that the datagrams to it carry
+-- the lines of the packets among the contents of records; if a port is given, of the packets that the datagrams to it carry
 abbrev pub packet_lines : Option ℕ → List Content → List ℕ
 packet_lines unwrap contents = flat_map packet_line (packets_of unwrap contents)
 
--- how the fault of a header is told
+-- the text of a header's fault
 abbrev pub header_fault_text : HeaderFault → List ℕ
 header_fault_text Magic = codes "refused L1"
 header_fault_text Pcapng = codes "refused L2"
@@ -31,7 +31,7 @@ header_fault_text Version = codes "refused L3"
 header_fault_text (LinkType number) = codes "refused L4 " ++ decimal number
 header_fault_text Cut = codes "refused L5 0"
 
--- and where a file is cut in a record: nothing where it is not
+-- the text about a file that is cut in a record: nothing if it is not cut
 abbrev pub cut_text : Option ℕ → List ℕ
 cut_text None = []
 cut_text (Some place) = codes "refused L5 " ++ decimal place ++ codes "\n"
@@ -64,7 +64,7 @@ IsPacketsText unwrap file Done text = IsTextOfCapture unwrap file text
 IsPacketsText unwrap file Refused text = IsTextOfCut unwrap file text ⊎ IsTextOfFault file text
 IsPacketsText unwrap file _ text = ⊥
 
--- that text was written behind what stood before, and nothing else
+-- that text was written after the earlier text, and nothing else
 pub record WritesText (unwrap : Option ℕ) (file : List ℕ) (status : Status) (before after : Option (List ℕ)) : Type 0 where
   pub text : List ℕ
   pub text_is : IsPacketsText unwrap file status text
@@ -91,7 +91,7 @@ abbrev pub counts_text : Summary → List ℕ
 counts_text summary =
     codes "packets " ++ decimal summary.whole ++ codes " cut " ++ decimal summary.cut ++ codes " other " ++ decimal summary.other ++ codes "\n"
 
--- a beginning of the counts was told, where the header was read
+-- a prefix of the counts was written, if the header was read
 abbrev pub TellsCounts : Option ℕ → List ℕ → Option (List ℕ) → Option (List ℕ) → Type 0
 TellsCounts unwrap file before after =
     ((summary : Summary) × IsSummary unwrap file summary × AppendsBeginning before after (counts_text summary))

@@ -3,8 +3,8 @@ use Rattle.std.specs.Prelude.{◌≡◌, ◌≤◌, ◌++◌, List, drop, length
 use Rattle.packet_capture.specs.declared.order.Order.{Order}
 use Rattle.packet_capture.specs.Number.{number_at}
 
--- the bytes begin with a record, and then comes the rest: a record is a header of 16 bytes, which has the captured packet length at
--- place 8, and so many captured bytes
+-- the bytes begin with a record, and then comes the rest: a record is a header of 16 bytes, which has the captured packet length
+-- at place 8, and this many captured bytes
 pub record IsRecord (order : Order) (bytes captured rest : List ℕ) : Type 0 where
   pub complete : 16 ≤ length bytes
   pub captured_length : number_at order 4 bytes 8 ≡ length captured

@@ -1,4 +1,4 @@
-//! What a record holds: an IPv4 packet, one that was cut, or something else (docs/COMMANDS.md, "packets").
+//! The content of a record: an IPv4 packet, one that was cut, or something else (docs/COMMANDS.md, "packets").
 
 ghost use Rattle.std.specs.Prelude.{◌≡◌, ◌≤◌, ◌↔◌, IfSome, IsTrue};
 ghost use Rattle.packet_capture.specs.Content.{HasOneContent, IsContent};
@@ -12,21 +12,21 @@ use crate::link_type::LinkType;
 use crate::order::Order;
 use ipv4_fields::{Field, field};
 
-/// What a record holds.
+/// The content of a record.
 #[derive(Clone, Copy, Debug, PartialEq, Eq)]
 pub enum Content<'a> {
-    /// An IPv4 packet, whole, without what stands behind its end.
+    /// A whole IPv4 packet, without the bytes after its end.
     Packet(&'a [u8]),
-    /// The record ends before its IPv4 packet does, or before it can be told what it holds.
+    /// The record ends before its IPv4 packet does, or before its content can be recognized.
     Cut,
-    /// No IPv4 packet.
+    /// Not an IPv4 packet.
     Other,
 }
 
-/// Tells what a record holds, by its captured bytes.
+/// Returns the content of a record, from its captured bytes.
 ///
-/// A packet ends where the total length in its header tells (RFC 791, section 3.1), so it has at most 65,535 bytes. A record whose
-/// frame was cut behind the packet's end has the packet whole.
+/// The total length in a packet's header is its length (RFC 791, section 3.1), so a packet has at most 65,535 bytes. If
+/// the frame of a record was cut after the packet's end, the packet is whole.
 pub fn content_of<'a>(link_type: LinkType, order: Order, captured: &'a [u8]) -> Content<'a>
     ensures { IsContent link_type order captured.entry.now result }
 {
@@ -46,7 +46,7 @@ fn may_hold_ipv4(link_type: LinkType, order: Order, captured: &[u8]) -> bool
     }
 }
 
-// What stands at the front of the bytes behind a link header.
+// Returns the content at the front of the bytes after a link header.
 fn front(bytes: &[u8]) -> Content<'_>
     ensures { IsFront bytes.now result }
 {
@@ -93,7 +93,7 @@ fn reaches_header(bytes: &[u8]) -> bool
     }
 }
 
-/// Law: a record holds one thing. It runs nothing.
+/// Law: a record has one content. It runs nothing.
 pub fn one_content(link_type: LinkType, order: Order, captured: &[u8])
     ensures { HasOneContent link_type order captured.now }
 {}

@@ -1,4 +1,4 @@
-//! The counts of a capture file, as they are told (docs/COMMANDS.md, "packets").
+//! The printed counts of a capture file (docs/COMMANDS.md, "packets").
 
 ghost use Rattle.std.specs.Prelude.{Some};
 ghost use Rattle.packet_capture.specs.Packets.{counts_text};

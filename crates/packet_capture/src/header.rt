@@ -8,10 +8,10 @@ use crate::fault::HeaderFault;
 use crate::link_type::LinkType;
 use crate::order::Order;
 
-/// How many bytes the header has.
+/// The number of bytes of the header.
 pub const FILE_HEADER: usize = 24;
 
-/// What the header of a file tells of its records.
+/// The facts about the records in the header of a file.
 #[derive(Clone, Copy, Debug, PartialEq, Eq)]
 pub struct FileHeader {
     pub order: Order,
@@ -20,8 +20,8 @@ pub struct FileHeader {
 
 /// Reads the header of a capture file: the magic number, the version and the link type.
 ///
-/// `bytes` is the file, or its beginning. Times in microseconds and in nanoseconds are read alike. The snapshot length is not looked
-/// at, nor are the high 16 bits of the last field, which tell of frame check sequences.
+/// `bytes` is the file, or its beginning. Times in microseconds and in nanoseconds are read alike. The snapshot length
+/// is ignored, and so are the high 16 bits of the last field, which describe frame check sequences.
 pub fn read_header(bytes: &[u8]) -> Result<FileHeader, HeaderFault>
     ensures header { IfOk result (IsFileHeader bytes.now) }
     ensures fault { IfErr result (IsHeaderFault bytes.now) }
@@ -40,7 +40,7 @@ pub fn read_header(bytes: &[u8]) -> Result<FileHeader, HeaderFault>
     }
 }
 
-// The byte order that the magic number tells.
+// Returns the byte order of the magic number.
 fn read_order(bytes: &[u8]) -> Result<Order, HeaderFault>
     ensures order { IfOk result (λ order. (4 ≤ length bytes.now) × (order_of (magic_of bytes.now) ≡ Some order)) }
     ensures fault { IfErr result (IsHeaderFault bytes.now) }

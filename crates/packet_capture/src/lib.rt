@@ -1,9 +1,12 @@
 //! Capture files of libpcap, and the IPv4 packets in them (draft-ietf-opsawg-pcap; docs/COMMANDS.md, "packets").
 //!
-//! A file is read record by record: `read_header` reads its header, `first_record` cuts a record off, and `content_of` tells what
-//! it holds. Both byte orders are read, times in microseconds and in nanoseconds, and the link types of `LinkType`. `summarize` counts
-//! the records of a file, and tells where it is cut. `print_packets` writes a line of a script for each packet, and the refusal of a file
-//! that is none or is cut. Both do so for the packets that datagrams to a port carry, if a port is given. No other call takes memory.
+//! A file is read record by record: `read_header` reads its header, `first_record` splits off a record, and
+//! `content_of` returns its content. Both byte orders are read, times in microseconds and in nanoseconds, and the link
+//! types of `LinkType`.
+//!
+//! `summarize` counts the records of a file, and finds where it is cut. `print_packets` writes a line of a script for
+//! each packet, and the refusal if the file is not a capture file or is cut. Both use the packets carried by datagrams
+//! to a port, if a port is given. No other call takes memory.
 #![tactic(auto)]
 
 ghost use Rattle.std.specs.Prelude.{◌≡◌, ◌+◌, ◌<◌, ◌^◌, IfErr, IfOk, None};
@@ -33,24 +36,24 @@ pub use packet_lines::print_packets;
 use printed::printed_packet;
 pub use record::{RECORD_HEADER, first_record};
 
-/// What the header of a file tells, how many of its records hold what, and where it is cut.
+/// The header of a file, the numbers of its records by content, and the place where it is cut.
 #[derive(Clone, Copy, Debug, PartialEq, Eq)]
 pub struct Summary {
     pub header: FileHeader,
-    /// IPv4 packets, whole; with a port, the packets that datagrams to it carry.
+    /// Whole IPv4 packets; with a port, the packets carried by datagrams to it.
     pub whole: usize,
-    /// IPv4 packets that were cut, and records that end before it can be told what they hold.
+    /// IPv4 packets that were cut, and records that end before their content can be recognized.
     pub cut: usize,
-    /// Records that hold something else; with a port, other packets too.
+    /// Records with another content; with a port, other packets too.
     pub other: usize,
-    /// The place of the first byte behind the last whole record, counted from 0, where bytes stand there.
+    /// The place of the first byte after the last whole record, counted from 0, if there is such a byte.
     pub cut_at: Option<usize>,
 }
 
-/// Counts the records of a capture file by what they hold, and tells where it is cut.
+/// Counts the records of a capture file by their content, and finds where it is cut.
 ///
-/// `file` is the file whole. `unwrap` is the port whose datagrams are replaced by the packets that they carry, if one is given. `Err` is
-/// the first fault of the header.
+/// `file` is the whole file. `unwrap` is the port whose datagrams are replaced by the packets that they carry, if one
+/// is given. `Err` is the first fault of the header.
 pub fn summarize(unwrap: Option<u16>, file: &[u8]) -> Result<Summary, HeaderFault>
     ensures summary { IfOk result (IsSummary unwrap file.now) }
     ensures fault { IfErr result (IsHeaderFault file.now) }
@@ -63,7 +66,7 @@ pub fn summarize(unwrap: Option<u16>, file: &[u8]) -> Result<Summary, HeaderFaul
     Ok(summary)
 }
 
-// Counts the records, and gives what stands behind them.
+// Counts the records, and returns the bytes after them.
 fn count_records(unwrap: Option<u16>, header: FileHeader, bytes: &[u8]) -> (Summary, &[u8])
     ensures header { result.0.header ≡ header }
     ensures counted { IsCounted unwrap header bytes.entry.now result.0 result.1.now }

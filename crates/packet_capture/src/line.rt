@@ -1,4 +1,4 @@
-//! Writing a line, of which it is known how much was written if a write fails.
+//! Writing a line; if a write fails, a prefix of the line was written.
 
 ghost use Rattle.std.specs.Prelude.{◌≡◌, ◌++◌, IfErr, OnOk, codes};
 ghost use Rattle.std.specs.Io.KnownBytes.{Appends};

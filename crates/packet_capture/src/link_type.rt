@@ -1,4 +1,4 @@
-//! The link types that are read, and what stands before the packet of a record (tcpdump.org/linktypes.html).
+//! The supported link types, and the bytes before the packet of a record (tcpdump.org/linktypes.html).
 
 ghost use Rattle.std.specs.Prelude.{◌≡◌, ◌≤◌};
 ghost use Rattle.packet_capture.specs.Header.{link_type_of};
@@ -8,7 +8,7 @@ ghost use Rattle.packet_capture.specs.declared.order.Order.TheVariants.{Big};
 
 use crate::order::Order;
 
-/// What stands before a packet in the records of a file.
+/// The bytes before a packet in the records of a file.
 #[derive(Clone, Copy, Debug, PartialEq, Eq)]
 pub enum LinkType {
     /// LINKTYPE_NULL, 0: the protocol family in four bytes, in the file's byte order; BSD's loopback.
@@ -26,7 +26,7 @@ pub enum LinkType {
 }
 
 impl LinkType {
-    /// The link type of a number, `None` where it is not read.
+    /// Returns the link type of a number, `None` if it is not supported.
     pub fn from_number(number: u16) -> Option<LinkType>
         ensures { result ≡ link_type_of number }
     {
@@ -81,7 +81,7 @@ impl LinkType {
     }
 }
 
-// How many tags stand behind the addresses of a frame, of which at most two are read.
+// Returns the number of tags after the addresses of a frame; at most two are read.
 fn tags(frame: &[u8]) -> usize
     ensures tags { result ≡ tags_of frame.now }
     ensures most { result ≤ 2 }

@@ -15,7 +15,7 @@ pub enum Order {
 }
 
 impl Order {
-    // The number of the two bytes at a place.
+    // Returns the number in the two bytes at a place.
     #[tactic(auto, unfolding(crate::specs::Number::number_at))]
     pub(crate) fn half_at(self, bytes: &[u8], place: usize) -> u16
         requires { place + 2 ≤ length bytes.now }
@@ -27,7 +27,7 @@ impl Order {
         }
     }
 
-    // The number of the four bytes at a place.
+    // Returns the number in the four bytes at a place.
     #[tactic(auto, unfolding(crate::specs::Number::number_at))]
     pub(crate) fn word_at(self, bytes: &[u8], place: usize) -> u32
         requires { place + 4 ≤ length bytes.now }
@@ -39,7 +39,7 @@ impl Order {
         }
     }
 
-    // The same, `None` where a byte is missing.
+    // The same, `None` if a byte is missing.
     pub(crate) fn half_field(self, bytes: &[u8], place: usize) -> Option<u32>
         requires { place ≤ 64 }
         ensures { result ≡ field_at self 2 bytes.now place }

@@ -21,10 +21,12 @@ use itoa::Buffer;
 use std::alloc::{AllocError, Global};
 use std::io::Write;
 
-/// Writes the packets of a capture file as lines, and then its counts to `errs`, whose own errors change nothing.
+/// Writes the packets of a capture file as lines, and then its counts to `errs`. Errors of `errs` are ignored.
 ///
-/// `file` is the file whole. `unwrap` is the port whose datagrams are replaced by the packets that they carry, if one is given. A file that is cut in a record is refused behind the packets before that. Where its header is refused
-/// nothing else is written. At a failure a beginning of this was written; at `OutOfMemory` the lines of some first packets, each whole.
+/// `file` is the whole file. `unwrap` is the port whose datagrams are replaced by the packets that they carry, if one
+/// is given. If the file is cut in a record, the refusal comes after the packets before that record. If the header is
+/// refused, nothing else is written. After a failure a prefix of this was written; after `OutOfMemory`, the whole lines
+/// of zero or more first packets.
 pub fn print_packets<W: Write, E: Write>(
     alloc: Global,
     unwrap: Option<u16>,
@@ -44,7 +46,7 @@ pub fn print_packets<W: Write, E: Write>(
         Ok(summary) => summary,
         Err(fault) => return write_refusal(fault, out),
     };
-    // Made before anything is written, so that want of memory for it comes first.
+    // Made before anything is written, so that lack of memory for it comes first.
     let counts = counts_line(alloc, summary)?;
     let status = write_capture(alloc, unwrap, summary.header, file, out)?;
     let _ = write_whole(counts.as_bytes(), errs);
@@ -69,7 +71,7 @@ fn write_refusal<W: Write>(fault: HeaderFault, out: &mut W) -> Result<Status, Fa
     Ok(Status::Refused)
 }
 
-// Writes the packets of a file with this header, and where it is cut.
+// Writes the packets of a file with this header, and the place where it is cut.
 fn write_capture<W: Write>(
     alloc: Global,
     unwrap: Option<u16>,
@@ -89,7 +91,7 @@ fn write_capture<W: Write>(
     Ok(status)
 }
 
-// Writes the packets of the records, and gives what stands behind these.
+// Writes the packets of the records, and returns the bytes after them.
 fn write_packets<'a, W: Write>(
     alloc: Global,
     unwrap: Option<u16>,
@@ -146,7 +148,7 @@ fn write_packet<W: Write>(alloc: Global, packet: &[u8], out: &mut W) -> Result<(
     write_line(b"packet ".as_slice(), digits.as_bytes(), out)
 }
 
-// Where bytes stand behind the last whole record, the file is cut at their place.
+// If there are bytes after the last whole record, the file is cut at their place.
 fn write_cut<W: Write>(place: usize, rest: &[u8], out: &mut W) -> Result<Status, Failure>
     ensures failed { IfErr result (λ failure. failure ≡ Failure.WriteFailed) }
     ensures status { IfOk result (λ status. (status ≡ Status.Done) ⊎ (status ≡ Status.Refused)) }

@@ -5,13 +5,13 @@ ghost use Rattle.packet_capture.specs.Record.{HasNoRecord, IsRecord};
 
 use crate::order::Order;
 
-/// How many bytes the header of a record has.
+/// The number of bytes of the header of a record.
 pub const RECORD_HEADER: usize = 16;
 
-/// Cuts the first record off: the bytes that were captured, and what stands behind the record.
+/// Splits off the first record: returns its captured bytes, and the bytes after the record.
 ///
-/// `None` is for bytes that end in a record, or that are none. The captured length alone tells where a record ends; it may be above
-/// the snapshot length and above the packet's own length.
+/// `None` if the bytes end in a record, or if there are none. The captured length alone decides where a record ends; it
+/// may be above the snapshot length and above the packet's own length.
 pub fn first_record(order: Order, bytes: &[u8]) -> Option<(&[u8], &[u8])>
     ensures { MatchOption result (HasNoRecord order bytes.now) (λ parts. IsRecord order bytes.now parts.0.now parts.1.now) }
 {

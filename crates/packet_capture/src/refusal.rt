@@ -1,4 +1,4 @@
-//! Why the header of a capture file is not read, as it is written (docs/COMMANDS.md, "Refusals").
+//! The line that refuses the header of a capture file (docs/COMMANDS.md, "Refusals").
 
 ghost use Rattle.std.specs.Prelude.{◌≡◌, ◌++◌, IfErr, OnOk, codes};
 ghost use Rattle.std.specs.Io.KnownBytes.{Appends};

@@ -7,10 +7,10 @@ ghost use Rattle.packet_udp.specs.body.Checked.{IsIpv4Checksum, IsUdpChecksum};
 use crate::checksum::{address_sum, checksum_of, word_sum};
 use ipv4_fields::Endpoint;
 
-/// How many bytes the IPv4 header has, without options.
+/// The number of bytes of the IPv4 header, without options.
 pub(crate) const IPV4_HEADER: usize = 20;
 
-/// How many bytes the UDP header has.
+/// The number of bytes of the UDP header.
 pub(crate) const UDP_HEADER: usize = 8;
 
 const PROTOCOL: u8 = 17;

@@ -1,4 +1,4 @@
--- As what a verdict is counted (docs/SWITCH.md, "Tallies").
+-- The kind by which a verdict is counted (docs/SWITCH.md, "Tallies").
 use Rattle.packet_verdict.specs.declared.kind.Kind.{Kind}
 use Rattle.packet_verdict.specs.declared.kind.Kind.TheVariants as kind
 use Rattle.packet_verdict.specs.declared.verdict.Verdict.{Verdict}

@@ -1,4 +1,4 @@
--- Which rule a malformed packet breaks (docs/SWITCH.md, "Which packets are dispatched").
+-- The rule that a malformed packet breaks (docs/SWITCH.md, "Which packets are dispatched").
 use Rattle.std.specs.Prelude.{◌==◌, ◌&&◌, ◌+◌, Bool, List, None, Option, Some, false, length, nat_le, true, ℕ}
 use Rattle.ipv4_fields.specs.declared.header.Field.TheVariants.{FragmentOffset, Ihl, MoreFragments, Protocol, TotalLength, UdpLength, Version}
 use Rattle.ipv4_fields.specs.Dispatchable.{field_value, header_length}

@@ -6,8 +6,8 @@ use Rattle.config_image.specs.Image.{Group}
 use Rattle.config_image.specs.Lookup.{HasGroup, HasMember}
 use Rattle.member_group.specs.declared.member.Member.{Member}
 
--- on this packet each selector and each filter of the configuration ends with a number, and meets at most as many instructions
--- as it has
+-- on this packet each selector and each filter of the configuration returns a number, after at most as many instructions as it
+-- has
 pub record ProgramsAreSound (config : List Group) (packet : List ℕ) : Type 0 where
   pub selectors : (index : ℕ) (group : Group) (program : ProgramValue) → HasGroup config index group → group.selector ≡ Some program →
       IsSound program.words packet

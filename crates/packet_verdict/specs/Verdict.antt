@@ -1,5 +1,5 @@
--- What a configuration makes of a packet (docs/SWITCH.md, "Verdicts"). Its programs may be of any kind of which it is known what
--- they answer a packet.
+-- The verdict of a configuration on a packet (docs/SWITCH.md, "Verdicts"). Its programs may be of any kind whose result on a
+-- packet is known.
 use Rattle.std.specs.Prelude.{◌==◌, ◌+◌, ◌*◌, ◌%◌, ◌∷◌, if◌then◌else◌, List, None, Option, Some, [], bit_xor, get_or, length, min, nat_lt, option_map, ℕ}
 use Rattle.bpf_machine.specs.Meaning.{Ending, Ret, Stuck, ending_of}
 use Rattle.bpf_verify.specs.Program.{ProgramValue}
@@ -16,21 +16,21 @@ abbrev pub returned : Ending → ℕ
 returned (Ret number) = number
 returned Stuck = 0
 
--- what an accepted program answers a packet
+-- the result of an accepted program on a packet
 abbrev pub value_of : ProgramValue → List ℕ → ℕ
 value_of program packet = returned (ending_of program.words packet)
 
--- where no selector decides: the exclusive or of both addresses and of both ports, the source's above, by the number of members
+-- if no selector decides: the exclusive or of both addresses and of both ports, the source's above, modulo the number of members
 abbrev pub plain_choice : Flow → ℕ → ℕ
 plain_choice flow count =
     bit_xor (bit_xor flow.source.address flow.destination.address) (flow.source.port * 65536 + flow.destination.port) % count
 
--- the index of a member of so many: what the selector answers, where that is one, else the plain choice
+-- the index of a member: the selector's result, if it is an index of a member, otherwise the plain choice
 abbrev pub choice : Option ℕ → Flow → ℕ → ℕ
 choice None flow count = plain_choice flow count
 choice (Some answer) flow count = if nat_lt answer count then answer else plain_choice flow count
 
--- what becomes of a packet of so many bytes at a member: its filter keeps the first bytes, or none
+-- the verdict of a member on a packet of this many bytes: its filter keeps the first bytes, or none
 abbrev pub kept : Endpoint → ℕ → Endpoint → Option ℕ → ℕ → Verdict
 kept key id to None bytes = Deliver key id to bytes
 kept key id to (Some answer) bytes = if answer == 0 then Dropped key id else Deliver key id to (min answer bytes)

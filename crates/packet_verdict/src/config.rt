@@ -1,4 +1,4 @@
-//! What a configuration in memory makes of a packet. It is judged as by its image (docs/SWITCH.md, "Verdicts").
+//! The verdict on a packet by a configuration in memory, which is the verdict by its image (docs/SWITCH.md, "Verdicts").
 
 ghost use Rattle.std.specs.Prelude.{◌≡◌, ◌≤◌, length, option_map};
 ghost use Rattle.bpf_machine.specs.declared.TheConstants.{MAX_PACKET};
@@ -26,7 +26,7 @@ pub fn group_by_key(groups: &[Group<Global>], key: Endpoint) -> Option<&Group<Gl
     None
 }
 
-// What a program answers the packet, if there is one.
+// Returns the program's result on the packet, if there is a program.
 fn answer_of(program: Option<&Program<Global>>, packet: &[u8]) -> Option<u32>
     requires { length packet.now ≤ MAX_PACKET }
     ensures { result ≡ option_map (λ program. value_of program packet.now) (option_map (λ lent. lent.now) program.entry) }

@@ -1,6 +1,6 @@
-//! As what a packet is counted (docs/SWITCH.md, "Tallies").
+//! The kinds by which packets are counted (docs/SWITCH.md, "Tallies").
 
-/// What is counted of packets: a verdict, or a device that failed.
+/// A kind of count: a verdict, or a device that failed.
 #[derive(Clone, Copy, Debug, PartialEq, Eq)]
 pub enum Kind {
     Malformed,

@@ -1,5 +1,5 @@
-//! What one version's configuration makes of a packet (docs/SWITCH.md, "Verdicts"): the words of its image, wherever they stand,
-//! and the packet tell the verdict. No call takes memory.
+//! The verdict on a packet by the configuration of one version (docs/SWITCH.md, "Verdicts"). It depends on the packet
+//! and on the words of the configuration's image, wherever these are. No call takes memory.
 #![tactic(auto)]
 
 ghost use Rattle.std.specs.Prelude.{◌≡◌, ◌≤◌, List, length};
@@ -26,8 +26,8 @@ pub use verdict::Verdict;
 
 /// Judges a packet by the configuration whose image the words begin with.
 ///
-/// `packet` begins with the first byte of its IPv4 header. Takes no memory; reads each header field once, and of the words
-/// those that find the group and the member, and the two programs as far as they run.
+/// `packet` begins with the first byte of its IPv4 header. Takes no memory. Reads each header field once; reads the
+/// words that find the group and the member, and the two programs as far as they run.
 #[tactic(auto, using(crate::proofs::VerdictLemmas::programs_are_sound))]
 pub fn judge<W: Words>(words: &mut W, packet: &[u8]) -> Verdict
     requires image { (config : List Group) × BeginsWithImage (W.words words.old) config }

@@ -1,4 +1,4 @@
-//! Which member of a group a packet goes to, and what that member makes of it.
+//! The member of a group that a packet goes to, and the member's verdict on it.
 
 ghost use Rattle.std.specs.Prelude.{◌≡◌, ◌<◌, ◌≤◌, IfSome, List, Option, length, option_map};
 ghost use Rattle.bpf_machine.specs.declared.TheConstants.{MAX_PACKET};
@@ -14,8 +14,8 @@ use bpf_machine::run_copy;
 use config_image::{FoundGroup, MemberEntry, ProgramPlace, member_with_filter, selector_of};
 use ipv4_fields::{Endpoint, Flow};
 
-// What the program at a place answers the packet, where there is one. Selectors and filters run on copies of the machine, each
-// called once, so that it is inlined.
+// Returns the result of the program at a place on the packet, if there is a program. Selectors and filters run on
+// copies of the machine, each called once, so that it is inlined.
 fn answer<W: Words, const COPY: usize>(
     words: &mut W,
     place: Option<ProgramPlace>,
@@ -45,7 +45,7 @@ fn plain_choice(flow: &Flow, count: usize) -> usize
     (mixed % count as u64) as usize
 }
 
-// The index of the member that a packet goes to, by what the selector answered.
+// Returns the index of the member that a packet goes to; `answer` is the selector's result.
 pub fn choice(answer: Option<u32>, flow: &Flow, count: usize) -> usize
     requires { 0 < count }
     ensures choice { result ≡ choice answer flow.now count }
@@ -73,7 +73,7 @@ pub fn choose<W: Words>(words: &mut W, group: &FoundGroup, flow: &Flow, packet: 
     choice(answer, flow, group.members)
 }
 
-// What a member makes of a packet of so many bytes, by what its filter answered.
+// Returns a member's verdict on a packet of `bytes` bytes; `answer` is the filter's result.
 pub fn kept(key: Endpoint, member: MemberEntry, answer: Option<u32>, bytes: usize) -> Verdict
     ensures { result ≡ kept key member.id member.to answer bytes }
 {
@@ -91,7 +91,7 @@ pub fn kept(key: Endpoint, member: MemberEntry, answer: Option<u32>, bytes: usiz
     }
 }
 
-// The same of the member at an index of a group.
+// The same for the member at an index of a group.
 pub fn judge_by_member<W: Words>(
     words: &mut W,
     group: usize,

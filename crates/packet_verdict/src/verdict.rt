@@ -1,4 +1,4 @@
-//! What becomes of a packet (docs/SWITCH.md, "Verdicts").
+//! The verdicts on packets (docs/SWITCH.md, "Verdicts").
 
 ghost use Rattle.std.specs.Prelude.{◌≡◌};
 ghost use Rattle.packet_verdict.specs.Kind.{kind_of};
@@ -6,7 +6,7 @@ ghost use Rattle.packet_verdict.specs.Kind.{kind_of};
 use crate::kind::Kind;
 use ipv4_fields::Endpoint;
 
-/// What becomes of a packet. `group` is the group's key, `member` the member's number in it.
+/// The verdict on a packet. `group` is the group's key, `member` the member's number in it.
 #[derive(Clone, Copy, Debug, PartialEq, Eq)]
 pub enum Verdict {
     /// It is not one whole UDP datagram.
@@ -30,7 +30,7 @@ pub enum Verdict {
 }
 
 impl Verdict {
-    /// Tells as what it is counted.
+    /// Returns the kind by which it is counted.
     pub fn kind(self) -> Kind
         ensures { result ≡ kind_of self }
     {

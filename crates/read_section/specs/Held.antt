@@ -1,4 +1,5 @@
--- What the rule says of a version that a worker holds, in each state that the table can be in: its words stand in their places.
+-- The rule's consequences for a version that a worker holds, in each state that the table can be in: its words are in their
+-- places.
 use Rattle.std.specs.Prelude.{◌≡◌, ◌↔◌, List, Some, slice_index, ℕ}
 use mathlib.Core.Option.{some}
 use lib.ListN.{get_elem?}
@@ -15,12 +16,12 @@ use Rattle.read_section.specs.declared.versions_rule.SeatView.{SeatView}
 use Rattle.read_section.specs.VersionsRule.{IsAllowedState, TableState, state_left}
 
 module _ {C : Type 0} (shape : Shape C) where
-  -- the worker has seen version n, and x is what the form of that configuration has at the place, where row r and the worker's
-  -- pages hold it
+  -- the worker has seen version n, and x is the word of that configuration's form at the place, if the form is in row r and the
+  -- worker's pages
   abbrev pub IsSeenWord : WorkerView C → ℕ → ℕ → ℕ → ℕ → Type 0
   IsSeenWord view n r place x = (config : C) × (get_elem? view.seen n ≡ some config) × IsFormWord shape r config view.pages place x
 
--- a worker that has a seat at the table is inside: it holds version n, which stands in row r
+-- a worker that has a seat at the table is inside: it holds version n, which is in row r
 pub record IsHolder (state : TableState) (view : WorkerView (List Group)) (n r : ℕ) : Type 0 where
   pub seat : ℕ
   pub known : SeatView (List Group)
@@ -35,8 +36,8 @@ HeldWordsStand =
     (config : List Group) (state : TableState) (view : WorkerView (List Group)) (n r place : ℕ) → IsAllowedState config state → IsHolder state view n r
     → IsHeldPlace the_shape view place → IsSeenWord the_shape view n r place (slice_index state.words place)
 
--- in two such states these words are the same, where the worker holds the version in both, and knows in the later one what it knew
--- in the earlier: what it had seen, and the version's pages
+-- in two such states these words are the same, if the worker holds the version in both, and knows in the later one what it knew
+-- in the earlier: the versions that it had seen, and the version's pages
 abbrev pub HeldWordsStay : Type 0
 HeldWordsStay =
     (config : List Group) (earlier later : TableState) (view view' : WorkerView (List Group)) (n r place : ℕ) → IsAllowedState config earlier → IsAllowedState config later

@@ -1,4 +1,4 @@
--- Which configurations a row takes, and from where on a row is known to be 0.
+-- The configurations that fit a row, and the place from which a row is known to be 0.
 use Rattle.std.specs.Prelude.{◌≡◌, ◌*◌, ◌+◌, ◌<◌, ◌≤◌, List, slice_index, ℕ}
 use Rattle.config_image.specs.declared.TheConstants.{ROW_WORDS}
 use Rattle.config_image.specs.Image.{Group}
@@ -13,7 +13,7 @@ use Rattle.versions.specs.Table.{the_shape}
 abbrev pub IsPublishable : List Group → Type 0
 IsPublishable config = IsConfig config × (charge_of config ≤ CHARGE_LIMIT)
 
--- the row of the operator's words and some pages hold the configuration in the pooled form. The row names just these pages
+-- the row of the operator's words and some pages contain the configuration in the pooled form. The row names just these pages
 -- (`versions::pooled_form_stands`)
 abbrev pub HoldsConfig : OperatorView (List Group) → ℕ → List Group → Type 0
 HoldsConfig view r config = (pages : List ℕ) × HoldsForm the_shape 0 view.stored r config pages

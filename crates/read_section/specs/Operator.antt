@@ -1,4 +1,4 @@
--- What a contract sees of an Operator: what it knows, and what it reported.
+-- What a contract sees of an Operator: its knowledge, and the versions that it reported.
 use Rattle.std.specs.Prelude.{◌≡◌, ◌+◌, ◌++◌, ◌<◌, ◌≤◌, ◌↔◌, ◌∷◌, List, Some, [], length, slice_get, ℕ}
 use mathlib.Core.Option.{some}
 use lib.ListN.{get_elem?}
@@ -17,7 +17,7 @@ use Rattle.versions.specs.Table.{the_shape}
 use Rattle.read_section.specs.View.{Shows, TellsLog}
 use Rattle.read_section.specs.Worker.{WorkerValue, steps}
 
--- the table whose operator it is, what it knows, and how many versions it reported as free
+-- the operator's table, its knowledge, and the number of versions that it reported as free
 pub record OperatorValue : Type 0 where
   pub table : TableId
   pub view : OperatorView (List Group)
@@ -27,7 +27,7 @@ pub record OperatorValue : Type 0 where
 abbrev pub IsCurrent : OperatorView (List Group) → List Group → Type 0
 IsCurrent view config = (older : List (List Group)) × (view.published ≡ older ++ config ∷ [])
 
--- the current version stands in its row and in these pages, in the pooled form of the configuration
+-- the current version is in its row and in these pages, in the pooled form of the configuration
 pub record StandsIn (view : OperatorView (List Group)) (config : List Group) (pages : List ℕ) : Type 0 where
   pub row : ℕ
   pub in_row : get_elem? view.version_rows (number_after view.log) ≡ some row
@@ -35,7 +35,7 @@ pub record StandsIn (view : OperatorView (List Group)) (config : List Group) (pa
   pub named : get_elem? view.version_pages (number_after view.log) ≡ some pages
 
 -- the operator after each of its single steps: a fill of a place of a row or of a page, the publication of a configuration from a
--- row, a scan of worker w that told this log
+-- row, a scan of worker w that showed this log
 abbrev pub filled : ℕ → ℕ → ℕ → OperatorValue → OperatorValue
 filled row place word operator = record operator { view = after_fill (rows_begin the_shape) (row_begin the_shape row + place) word operator.view }
 
@@ -61,8 +61,8 @@ pub record IsLeastFreePage (view : OperatorView (List Group)) (from q : ℕ) : T
   pub free : IsFreePage the_shape view q
   pub least : (page : ℕ) → from ≤ page → IsFreePage the_shape view page → q ≤ page
 
--- the pool never runs short: where a row is free, and whatever pages are left out, fewer than one version may name, another page is
--- free
+-- the pool never runs short: if a row is free, another page is free too, even if any pages, fewer than one version may name, are
+-- left out
 abbrev pub NeverShort : OperatorView (List Group) → Type 0
 NeverShort view = HasFreeRow view → (taken : List ℕ) → length taken < PAGE_LIMIT
     → (page : ℕ) × IsFreePage the_shape view page × ((index : ℕ) → slice_get taken index ≡ Some page → ⊥)
@@ -72,7 +72,7 @@ pub record IsReport (view : OperatorView (List Group)) (reported first count : �
   pub from : first ≡ reported
   pub free : (m : ℕ) → first ≤ m → IsFree the_shape m view.log ↔ (m < first + count)
 
--- a worker peeks, which shows it all that is published, and the operator then scans it, which tells the worker's whole log: its
+-- a worker peeks, which shows it all that is published, and the operator then scans it, which shows the worker's whole log: its
 -- own, in the order of its steps, and going on from the log of the operator's scan before
 pub record Meets (worker worker' : WorkerValue) (operator operator' : OperatorValue) : Type 0 where
   pub peeked : ℕ

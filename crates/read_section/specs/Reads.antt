@@ -21,9 +21,9 @@ abbrev pub AreFetchesIn : WorkerView (List Group) → List Entry → Type 0
 AreFetchesIn view [] = Unit {0}
 AreFetchesIn view (newest ∷ older) = IsFetchIn view newest.step × AreFetchesIn view older
 
--- where the fetch goes that tells word i of the image: to the row's first word for the image's length, and for what is behind the
--- image; to the same word of the row before the programs; and else to the page that has the word's part. What it loads there is the
--- answer
+-- the place of the fetch that decides word i of the image: the row's first word for the image's length, and for words after the
+-- image; the same word of the row before the programs; otherwise the page that has the word's part. The word that it loads there
+-- is the answer
 pub record TellsWordAt (config : List Group) (r : ℕ) (pages : List ℕ) (i place x answer : ℕ) : Type 0 where
   pub by_length : (i ≡ 0) ⊎ (length (image config) ≤ i) → place ≡ row_begin the_shape r
   pub by_row : 0 < i → i < programs_begin config → place ≡ row_begin the_shape r + i
@@ -32,8 +32,8 @@ pub record TellsWordAt (config : List Group) (r : ℕ) (pages : List ℕ) (i pla
       × (place ≡ page_begin the_shape page + (i - part_begin config index))
   pub loaded : 0 < i → i < length (image config) → x ≡ answer
 
--- word i of the version that is held was read by fetches of words of that version and by nothing else, at least one and at most so
--- many; the newest of them told the answer
+-- word i of the version that is held was read by fetches of words of that version and by nothing else, at least one and at most
+-- this many; the newest of them decided the answer
 pub record Reads (most i answer : ℕ) (before after : WorkerValue) : Type 0 where
   pub place : ℕ
   pub loaded : ℕ
@@ -47,7 +47,7 @@ pub record Reads (most i answer : ℕ) (before after : WorkerValue) : Type 0 whe
 abbrev pub FewFetches : ℕ → ℕ → WorkerValue → WorkerValue → Type 0
 FewFetches = Reads 13
 
--- so many fetches of words of the version that is held, and nothing else
+-- this many fetches of words of the version that is held, and nothing else
 pub record Fetched (n : ℕ) (before after : WorkerValue) : Type 0 where
   pub fetches : List Entry
   pub counted : length fetches ≡ n

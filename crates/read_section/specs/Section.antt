@@ -1,4 +1,4 @@
--- What a contract sees of a Section: its worker, and what stays of it while its words are read.
+-- What a contract sees of a Section: its worker, and the parts of it that do not change while its words are read.
 use Rattle.std.specs.Prelude.{◌≡◌, ◌++◌, ◌∷◌, List, [], length, slice_index_or, ℕ}
 use Rattle.std.specs.Borrow.{GName}
 use Rattle.std.specs.List.{Contains}
@@ -32,7 +32,7 @@ ready_from section = section.kept.extent.at
 abbrev pub ready_to : Section → ℕ
 ready_to section = section.kept.extent.end
 
--- how much further its words stand in the table than in the image
+-- how much further its words are in the table than in the image
 abbrev pub shift_of : Section → ℕ
 shift_of section = section.kept.extent.shift
 
@@ -48,7 +48,8 @@ abbrev pub words_in : Stage → List (List Group) → List ℕ
 words_in (Inside read_word n r) seen = row (slice_index_or seen n [])
 words_in _ seen = []
 
--- the row of the version that a worker holds, as it has seen it: the image and zeros behind it. There are none where it holds none
+-- the row of the version that a worker holds, as it has seen it: the image and zeros after it. There are no words if it holds
+-- none
 abbrev pub held_words : WorkerValue → List ℕ
 held_words worker = words_in worker.view.stage worker.view.seen
 
@@ -65,7 +66,7 @@ before_fetches (newest ∷ older) = before_fetch newest.step (newest ∷ older) 
 abbrev pub at_pin : WorkerValue → WorkerValue
 at_pin worker = record worker { view = record worker.view { log = before_fetches worker.view.log } }
 
--- what stays while a section's words are read: which worker's section it is, and all of that worker but fetches
+-- the parts that do not change while a section's words are read: its worker, and all of that worker except fetches
 pub record SectionRest : Type 0 where
   pub borrow : GName
   pub pinned : WorkerValue
@@ -104,7 +105,7 @@ pub record IsWholeSection (before inside after : WorkerValue) : Type 0 where
   pub number : after.view.number ≡ inside.view.number
   pub table : after.table ≡ before.table
 
--- what `enter`, reads that leave the section's rest, and `leave` say is together a whole section
+-- `enter`, reads that keep the section's rest, and `leave` together are a whole section
 abbrev pub SectionsAreWhole : Type 0
 SectionsAreWhole =
     (before inside last after : WorkerValue) → Enters before inside → at_pin last ≡ at_pin inside → EndsInFetches last → after ≡ steps left last → IsWholeSection before inside after

@@ -1,5 +1,5 @@
--- The rule that the table keeps between any two accesses, whatever their order: it is what a legal trace left (docs/TABLE.md,
--- "The rule").
+-- The rule that the table keeps between any two accesses, whatever their order: its words are those that a legal trace left
+-- (docs/TABLE.md, "The rule").
 use Rattle.std.specs.Prelude.{◌≡◌, ◌<◌, ◌≤◌, ◌⊎◌, List, Some, ℕ}
 use Rattle.std.specs.List.{Contains}
 use mathlib.Core.Option.{some}
@@ -18,7 +18,7 @@ use Rattle.read_section.specs.declared.versions_rule.SeatView.{SeatView}
 use Rattle.read_section.specs.Layout.{IsPublishable}
 
 module _ {C : Type 0} (shape : Shape C) where
-  -- what the seat knows is so, and no other seat knows it: `seat_of` names each worker's seat; version 0 has these pages
+  -- the knowledge of the seat is true, and no other seat has it: `seat_of` names each worker's seat; version 0 has these pages
   pub record IsViewOf (config : C) (pages : List ℕ) (now : State C) (seat_of : ℕ → ℕ) (operator_seat seat : ℕ) (view : SeatView C) : Type 0 where
     pub worker : (worker : WorkerView C) → view.worker ≡ Some worker → (seat_of worker.number ≡ seat) × (get_elem? now.workers worker.number ≡ some worker)
     pub operator : (operator : OperatorView C) → view.operator ≡ Some operator → (operator_seat ≡ seat) × (operator ≡ now.operator)

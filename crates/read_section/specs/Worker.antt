@@ -9,7 +9,7 @@ use Rattle.versions.specs.View.{after_announce, after_leave, after_peek, after_p
 use Rattle.versions.specs.Table.{the_shape}
 use Rattle.read_section.specs.View.{Shows}
 
--- the table that it is a worker of, and what it knows
+-- the worker's table, and its knowledge
 pub record WorkerValue : Type 0 where
   pub table : TableId
   pub view : WorkerView (List Group)
@@ -25,7 +25,7 @@ IsOutside (Peeked n) = Unit {0}
 IsOutside (Announced read_word) = ⊥
 IsOutside (Inside read_word n r) = ⊥
 
--- inside a section of version n, which stands in row r
+-- inside a section of version n, which is in row r
 abbrev pub IsInside : Stage → ℕ → ℕ → Type 0
 IsInside stage n r = stage ≡ Inside (read_word_of stage) n r
 
@@ -37,8 +37,8 @@ left_from _ view = view
 abbrev pub left : WorkerView (List Group) → WorkerView (List Group)
 left view = left_from view.stage view
 
--- a worker enters: where an abandoned section left it inside it leaves; then it peeks, announces the version of that peek plus
--- 1, and pins. `peeked` and `pinned` are the words that it loaded, and `pages` those of the version that the pin gave
+-- a worker enters: if an abandoned section left it inside it leaves; then it peeks, announces the version of that peek plus 1,
+-- and pins. `peeked` and `pinned` are the words that it loaded, and `pages` those of the version that the pin loaded
 pub record Enters (before after : WorkerValue) : Type 0 where
   pub peeked : ℕ
   pub pinned : ℕ

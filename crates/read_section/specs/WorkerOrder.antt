@@ -1,4 +1,4 @@
--- The order in which a command takes workers (docs/DECISIONS.md, "Which worker is taken first").
+-- The order in which a command takes workers (docs/INTERNALS.md, "Which worker is taken first").
 use Rattle.std.specs.Prelude.{◌≡◌, ◌∷◌, [], List, Some, map, reverse, slice_get, ℕ}
 
 -- The workers by the order in which `pop` takes them. Read words are eight apart from each other, and from `current`, in each line; the

@@ -1,4 +1,4 @@
-//! The pages of the current version, in memory that holds as many as a version may name.
+//! The pages of the current version, in memory with room for as many as a version may name.
 
 ghost use Rattle.std.specs.Prelude.{◌≡◌, ◌≤◌, IfOk, length, map};
 ghost use Rattle.config_image.specs.PageTable.{page_of};
@@ -26,7 +26,7 @@ impl Model for CurrentPages {
 }
 
 impl CurrentPages {
-    /// The first `count` pages, those of version 0.
+    /// Returns the first `count` pages, those of version 0.
     pub(crate) fn first(alloc: Global, count: usize) -> Result<CurrentPages, AllocError>
         requires { count ≤ PAGE_LIMIT }
         ensures { IfOk result (λ current. current ≡ first_pages count) }
@@ -38,7 +38,7 @@ impl CurrentPages {
         Ok(CurrentPages { pages })
     }
 
-    /// Puts the pages of these names in the place of those before. Takes no memory.
+    /// Replaces the pages by those of these names. Takes no memory.
     pub(crate) fn replace(&mut self, names: &[u64])
         requires { length names.now ≤ PAGE_LIMIT }
         ensures { self.new ≡ map page_of names.now }

@@ -2,9 +2,9 @@
 //! loads, each in a read-side critical section, without a lock and without waiting (Desnoyers et al. 2012, "User-Level
 //! Implementations of Read-Copy Update"; docs/TABLE.md).
 //!
-//! `open` makes a table at version 0, its operator and its workers. All that they do to the table are the eight kinds of
-//! step of `versions`; the rule on the table says that its words are what a legal trace of such steps left, and contracts say
-//! which steps a call makes. Only `open` and `open_within` take memory.
+//! `open` makes a table at version 0, its operator and its workers. They access the table only by the eight kinds of
+//! step of `versions`. The rule on the table says that its words are those that a legal trace of such steps left, and
+//! contracts say which steps a call makes. Only `open` and `open_within` take memory.
 #![tactic(auto)]
 
 ghost use Rattle.std.specs.Prelude.{◌≡◌, ◌<◌, ◌≤◌, ◌↔◌, Err, IfOk};

@@ -29,7 +29,7 @@ use std::alloc::Global;
 use std::marker::Model;
 use versions::{Book, PAGES, ROWS, WORKERS, row_begin, row_names, row_place};
 
-/// The versions from `first` on, `count` of them, may be reused.
+/// The `count` versions from `first` on, which may be reused.
 #[derive(Clone, Copy, Debug, PartialEq, Eq)]
 pub struct Reclaimed {
     pub first: u64,
@@ -38,7 +38,7 @@ pub struct Reclaimed {
 
 /// The updater of a table.
 ///
-/// Contracts see its table, its log with what it published, and how many versions it reported.
+/// Contracts see its table, its log with its publications, and the number of versions that it reported.
 /// The reason: docs/INTERNALS.md, "What the operator keeps".
 #[derive(Drop)]
 pub struct Operator {
@@ -64,7 +64,7 @@ impl Model for Operator {
     ghost invariant = { λ o. IsKeptBy o.seat.view o.config o.book o.reported o.zeros o.words.items o.pages };
 }
 
-// Where the zeros of a row begin, after a word was stored at a place.
+// Returns the place at which the zeros of a row begin, after a word was stored at a place.
 fn zeros_begin(from: usize, place: usize, word: u64) -> usize
     requires from { from ≤ ROW_WORDS }
     requires place { place < ROW_WORDS }
@@ -80,7 +80,7 @@ fn zeros_begin(from: usize, place: usize, word: u64) -> usize
     from
 }
 
-// Where the zeros of a row in the pooled form begin, by its first word: after its page table.
+// Returns the place at which the zeros of a row in the pooled form begin, from its first word: after its page table.
 fn form_end(form: RowHeader) -> usize
     ensures { result ≡ header_begin form.0 + header_count form.0 }
 {
@@ -122,7 +122,7 @@ impl Operator {
         &self.config
     }
 
-    /// Tells the number of the current version, counted from 0.
+    /// Returns the number of the current version, counted from 0.
     pub fn number(&self) -> u64
         ensures number { result ≡ number_after self.now.view.log }
         ensures limited { result ≤ LAST_NUMBER }
@@ -131,17 +131,19 @@ impl Operator {
         self.book.number
     }
 
-    /// Tests whether a row is free: it was never used, or its last version is. No step; false where there is no such row.
+    /// Tests whether a row is free: it was never used, or its last version is free. Makes no step. False if there is no
+    /// such row.
     pub fn is_free(&self, row: usize) -> bool
         ensures free_row_exact { IsTrue result ↔ IsFreeRow the_shape self.now.view row }
     {
         self.book.is_free(row)
     }
 
-    /// Tells a place of a row from which on its words are 0, as the operator's own fills tell it. No step.
+    /// Returns a place of a row from which on its words are 0, as the operator's own fills left it. Makes no step.
     ///
-    /// It need not be the least: a fill of another word than 0 moves it behind that word, and a fill of 0 moves it down to its
-    /// own place only from right behind that. A publication moves it to the end of the form that the row holds.
+    /// The place need not be the least one. A fill of a word other than 0 moves it after that word; a fill of 0 moves
+    /// it down to the filled place only from the place right after. A publication moves it to the end of the form that
+    /// is in the row.
     pub fn zeros_from(&self, row: usize) -> usize
         requires { row < ROWS }
         ensures zeros { IsZeroFrom self.now.view row result }
@@ -162,7 +164,8 @@ impl Operator {
         self.zeros[row] = zeros_begin(self.zeros[row], place, word);
     }
 
-    /// Tells the word at a place of a row, as the operator's own fills left it: nobody else stores there. No step.
+    /// Returns the word at a place of a row, as the operator's own fills left it: nobody else stores there. Makes no
+    /// step.
     pub fn row_word(&self, row: usize, place: usize) -> u64
         requires row { row < ROWS }
         requires place { place < ROW_WORDS }
@@ -172,7 +175,7 @@ impl Operator {
         self.words[place]
     }
 
-    /// Lends the words of a row, as `row_word` tells them one by one. No step.
+    /// Lends the words of a row, which `row_word` returns one by one. Makes no step.
     pub fn row_words(&self, row: usize) -> &[u64]
         requires { row < ROWS }
         ensures whole { length result.now ≡ ROW_WORDS }
@@ -182,7 +185,7 @@ impl Operator {
         &self.words[begin..begin + ROW_WORDS]
     }
 
-    /// Tells the row of the current version. No step.
+    /// Returns the row of the current version. Makes no step.
     pub fn current_row(&self) -> usize
         ensures current { get_elem? self.now.view.version_rows (number_after self.now.view.log) ≡ some result }
         ensures a_row { result < ROWS }
@@ -195,16 +198,16 @@ impl Operator {
         unreachable!()
     }
 
-    /// Tests whether a page is free: each version that names it is. No step; false where there is no such page.
+    /// Tests whether a page is free: each version that names it is free. Makes no step. False if there is no such page.
     pub fn page_is_free(&self, page: usize) -> bool
         ensures page_free_exact { IsTrue result ↔ IsFreePage the_shape self.now.view page }
     {
         self.book.page_is_free(page)
     }
 
-    /// Tells the least free page from the page `from` on, `None` where there is none. No step.
+    /// Returns the least free page from the page `from` on, `None` if there is none. Makes no step.
     ///
-    /// Where a row is free there are more free pages than a version names (`never_short`).
+    /// If a row is free, there are more free pages than a version names (`never_short`).
     pub fn free_page(&self, from: usize) -> Option<usize>
         ensures least { MatchOption result ((page : ℕ) → from ≤ page → IsFreePage the_shape self.now.view page → ⊥) (IsLeastFreePage self.now.view from) }
         ensures never_short { NeverShort self.now.view }
@@ -219,7 +222,7 @@ impl Operator {
 
     /// Lends the pages of the current version, in its row's order.
     ///
-    /// The current version's row and these pages hold its configuration: neither is free, so no fill reached them.
+    /// The current version's row and these pages contain its configuration: neither is free, so no fill changed them.
     pub fn current_pages(&self) -> &[u32]
         ensures stands { (config : List Group) → IsCurrent self.now.view config → StandsIn self.now.view config result.now }
         ensures few { length result.now ≤ PAGE_LIMIT }
@@ -238,10 +241,11 @@ impl Operator {
         self.seat.fill_page(page, place, word);
     }
 
-    /// Publishes, by one store of `current`, a configuration that a free row holds with the pages that it names. Takes no memory.
+    /// Publishes a configuration by one store of `current`; a free row contains it, with the pages that the row names.
+    /// Takes no memory.
     ///
-    /// The pages of the new version are those that the row's own words name, and these hold the configuration (`named`). They are not
-    /// free from then on (`pool_kept`).
+    /// The pages of the new version are those that the row's own words name, and these contain the configuration
+    /// (`named`). They are not free from then on (`pool_kept`).
     pub fn put(&mut self, row: usize, config: Config)
         requires free { IsFreeRow the_shape self.old.view row }
         requires holds { HoldsConfig self.old.view row config }
@@ -260,7 +264,7 @@ impl Operator {
         self.config = config;
     }
 
-    /// Makes one scan of a worker's read word, and answers it. Takes no memory.
+    /// Makes one scan of a worker's read word, and returns it. Takes no memory.
     pub fn scan(&mut self, worker: usize) -> u64
         requires { worker < WORKERS }
         ensures one_scan { (log : List Entry) × TellsLog the_shape self.old.view worker result log × (self.new ≡ scanned worker result log self.old) }
@@ -270,7 +274,8 @@ impl Operator {
         word
     }
 
-    /// Tells which versions are free by the scans so far and were not reported before, and counts them as reported. No step.
+    /// Returns the versions that are free by the scans so far and were not reported before, and counts them as
+    /// reported. Makes no step.
     pub fn report(&mut self) -> Reclaimed
         ensures report_exact { IsReport self.old.view self.old.reported result.first result.count }
         ensures reported { self.new ≡ record self.old { reported = result.first + result.count } }

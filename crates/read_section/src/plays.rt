@@ -1,4 +1,4 @@
-//! What each single step on the table tells its actor, and what seats hand to one another.
+//! The facts that each single step on the table shows its actor, and those that seats pass to one another.
 
 ghost use Rattle.versions.specs.Table.{the_shape};
 ghost use Rattle.read_section.specs.Layout.{IsPublishable};
@@ -52,7 +52,7 @@ impl Play<u8, SeatView<Config>> for Scan {
     ghost then = { scans the_shape };
 }
 
-/// The operator's choice of the configuration that it proposes, which each call makes.
+/// The configuration that the operator proposes, which each call chooses.
 pub trait Proposal {
     ghost use Rattle.std.specs.Prelude.{List};
     ghost use Rattle.config_image.specs.Image.{Group};
@@ -110,7 +110,7 @@ impl Split<SeatView<Config>> for NoteSeen {
     ghost right = { note_of the_shape };
 }
 
-/// A seat is told what a note says.
+/// A seat learns what a note says.
 pub(crate) struct TakeNote;
 
 impl Join<SeatView<Config>> for TakeNote {

@@ -1,4 +1,4 @@
-//! How a word is read whose place its section does not know: by a few fetches that find it.
+//! Reading a word whose place its section does not know, by a few fetches that find it.
 
 ghost use Rattle.std.specs.Prelude.{◌≡◌, ◌<◌, ◌≤◌, Some, length, slice_get, ℕ};
 ghost use Rattle.config_image.specs.PageTable.{header_count, header_len, page_of};
@@ -87,7 +87,7 @@ fn find_extent(worker: &mut Worker, row: usize, form: RowHeader, i: usize) -> Ex
     extent
 }
 
-// Word i of the image, but not the first, where the row's first word was fetched.
+// Word i of the image, except the first, if the row's first word was fetched.
 fn read_image(worker: &mut Worker, row: usize, form: RowHeader, i: usize) -> u64
     requires known { KnowsRow worker.old.view row }
     requires form { IsFormIn worker.old.view form.0 }
@@ -116,7 +116,7 @@ fn fetch_form(worker: &mut Worker, row: usize, i: usize) -> RowHeader
     form
 }
 
-// Word i, where the row's first word tells it, or is not known yet.
+// Word i, if the row's first word decides it, or is not known yet.
 fn read_from_form(worker: &mut Worker, row: usize, i: usize) -> u64
     requires known { KnowsRow worker.old.view row }
     requires held { i < length (held_words worker.old) }
@@ -133,7 +133,7 @@ fn read_from_form(worker: &mut Worker, row: usize, i: usize) -> u64
     read_image(worker, row, form, i)
 }
 
-/// Reads word `i`, whatever it is, and puts into the worker's cache where it is.
+/// Reads word `i`, whatever it is, and adds its place to the worker's cache.
 /// Why it is cold and not inlined: docs/INTERNALS.md, "A section keeps by value where words are".
 #[cold]
 #[inline(never)]

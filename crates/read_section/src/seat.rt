@@ -265,7 +265,7 @@ impl OperatorSeat {
             .load::<Scan>(&mut self.seat, read_word_place(worker))
     }
 
-    // One peek of a worker and then one scan of it, by a seat that knows both. Answers the word of the scan.
+    // One peek of a worker and then one scan of it, by a seat that knows both. Returns the word of the scan.
     // The reason: docs/INTERNALS.md, "A seat that knows two".
     pub(crate) fn meet(&mut self, worker: &mut WorkerSeat) -> u64
         requires table { worker.old.table ≡ self.old.table }

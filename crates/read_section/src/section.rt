@@ -9,12 +9,13 @@ use bpf_insn::{ReadyWords, Words};
 use config_image::{Extent, ROW_WORDS, RowHeader};
 use versions::{ROWS, row_begin, row_place};
 
-// What a section keeps of the version that is held.
+// The facts that a section keeps about the version that is held.
 #[derive(Clone, Copy, Debug)]
 struct Kept {
     // The version's row.
     row: usize,
-    // Where the programs begin in the image; 0 where that is not known yet. What is before them stands in the row.
+    // The place at which the programs begin in the image; 0 if that is not known yet. The words before them are in the
+    // row.
     heads: usize,
     // The extent whose words are ready.
     extent: Extent,
@@ -44,8 +45,8 @@ fn ready_words(extent: Extent) -> ReadyWords
 /// A worker's read-side critical section: the words of one version's row.
 ///
 /// A section cannot be dropped: `leave` or `abandon` spends it.
-// The row and where words were found are kept here, and not looked up in the worker at each word: a caller that has the section as
-// a local keeps them in registers while a program runs. No word that is answered is kept.
+// The row and the places of words are kept here, and not looked up in the worker at each word: a caller that has the
+// section as a local keeps them in registers while a program runs. The words themselves are not kept.
 /// The reason: docs/INTERNALS.md, "A section keeps by value where words are".
 pub struct Section<'a> {
     worker: &'a mut Worker,
@@ -53,8 +54,8 @@ pub struct Section<'a> {
     ghost known: { Knows worker.now.view kept.row kept.heads kept.extent } by { KnowsIn-prop worker.now.view.stage worker.now.view.seen worker.now.view.pages kept.row kept.heads kept.extent },
 }
 
-/// The words of the section's row, `ROW_WORDS` of them: the image of the configuration, and then zeros. Each is read by a few
-/// fetches, of which the last tells it. A word that is ready takes one.
+/// The words of the section's row, `ROW_WORDS` of them: the image of the configuration, and then zeros. Each is read by
+/// a few fetches, of which the last decides it. A word that is ready takes one.
 impl Words for Section<'_> {
     ghost use Rattle.std.specs.Prelude.{◌≡◌, ◌+◌, ◌-◌, ◌<◌, ◌≤◌, ◌^◌, IfSome, Some, length, slice_get};
     ghost use Rattle.read_section.specs.Reads.{FetchedAtMost, FewFetches, Reads};
@@ -107,8 +108,8 @@ impl Words for Section<'_> {
         word
     }
 
-    // The words of the extent that has word i are ready then. An extent that is not cached is searched for by a call that is not
-    // inlined: it leaves the registers to the program's run.
+    // The words of the extent that has word i are ready then. An extent that is not cached is searched for by a call
+    // that is not inlined, which leaves the registers to the program's run.
     #[inline(always)]
     fn make_ready(&mut self, i: usize) -> Option<ReadyWords>
         requires { i < length (held_words (worker_of self.old)) }
@@ -134,8 +135,8 @@ impl Words for Section<'_> {
                 Some(ready_words(extent))
             }
             None => {
-                // The caller reads the word by `word`, which then makes no use of what was kept before: while a program runs, that needs
-                // no register.
+                // The caller reads the word by `word`, which then does not use what was kept before, so that needs no
+                // register while a program runs.
                 self.kept.heads = 0;
                 self.kept.extent = NO_EXTENT;
                 None
@@ -158,7 +159,7 @@ impl Words for Section<'_> {
         ensures words_kept { held_words (worker_of self.new) ≡ held_words (worker_of self.old) }
         ensures rest_kept { section_rest self.new ≡ section_rest self.old }
     {
-        // The clauses alone need it: the number is the place in the table.
+        // Only the clauses need it: the number is the place in the table.
         let _shift = shift;
         self.worker.fetch(number)
     }
@@ -187,7 +188,7 @@ impl<'a> Section<'a> {
         }
     }
 
-    /// Tells the number of the section's version, counted from 0.
+    /// Returns the number of the section's version, counted from 0.
     pub fn number(&self) -> u64
         ensures held_number { result ≡ held_version (worker_of self.now) }
     {

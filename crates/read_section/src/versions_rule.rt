@@ -8,7 +8,7 @@ use std::alloc::Global;
 use std::collections::LinkedList;
 use versions::{OperatorView, WorkerView};
 
-/// What a seat at the table knows over configurations `C`. No value of it is made.
+/// The knowledge of a seat at the table, over configurations `C`. No value of it is made.
 pub struct SeatView<C> {
     /// The worker that steps by the seat.
     pub worker: Option<WorkerView<C>>,
@@ -16,11 +16,12 @@ pub struct SeatView<C> {
     pub operator: Option<OperatorView<C>>,
     /// The workers from this number on made no step, and have no seat of their own yet.
     pub spare: usize,
-    /// Versions that the seat was told of.
+    /// Versions that the seat learned of.
     pub told: LinkedList<C>,
 }
 
-/// The rule on the table: its words are what a legal trace of `versions` left. It holds between any two accesses.
+/// The rule on the table: its words are those that a legal trace of `versions` left. The rule is true between any two
+/// accesses.
 pub struct VersionsRule;
 
 impl TableRule<u8, SeatView<Config>, Config> for VersionsRule {
@@ -39,11 +40,10 @@ pub(crate) type SharedTable = Table<u8, SeatView<Config>, Config, VersionsRule, 
 
 pub(crate) type TableSeat = Seat<u8, SeatView<Config>>;
 
-/// Law: no word of a version is overwritten while a worker holds it. The rule holds between any two accesses of the table, so
-/// each state that the table is ever in is one that it allows. In each of them, from the worker's pin to its leave, the words
-/// of the version's row and pages are those of its configuration, a fetch of any of them loads just that word, and none may be
-/// filled.
-/// It runs nothing.
+/// Law: no word of a version is overwritten while a worker holds the version. The rule is true between any two accesses
+/// of the table, so it allows each state of the table. In each state, from the worker's pin to its leave, the words of
+/// the version's row and pages are those of its configuration, a fetch of any of them loads that word, and none may be
+/// filled. It runs nothing.
 pub fn held_words_stand()
     ensures words_stand { HeldWordsStand }
     ensures words_stay { HeldWordsStay }

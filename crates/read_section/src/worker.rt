@@ -32,7 +32,7 @@ pub struct Worker {
     // The number of the version that it holds. It is the first field, so that its address is the worker's.
     held: Option<u64>,
     seat: WorkerSeat,
-    // Where words of the version stand that its last pin gave.
+    // The places of words of the version that its last pin loaded.
     cache: ExtentCache,
 }
 
@@ -64,9 +64,9 @@ impl Worker {
 
     /// Begins a read-side critical section on the version that is current at its pin.
     ///
-    /// Makes three steps and no other: peek, announce, pin; where an abandoned section left the worker inside, a leave comes
-    /// before them. It never waits, never retries and takes no memory. Until the section's leave no word of its version is
-    /// overwritten (`held_words_stand`).
+    /// Makes three steps and no other: peek, announce, pin. If an abandoned section left the worker inside, a leave
+    /// comes before them. It never waits, never retries and takes no memory. Until the section's leave no word of its
+    /// version is overwritten (`held_words_stand`).
     pub fn enter(&mut self) -> Section<'_>
         ensures same_worker { borrow_of result ≡ self.entry.ghost_name }
         ensures entered_by_three_steps { Enters self.old (worker_of result) }
@@ -85,8 +85,9 @@ impl Worker {
         Section::of(self, version, current_row(pinned))
     }
 
-    /// Makes one peek, and the operator then one scan of this worker: what the operator published so far the worker has
-    /// seen, and each later pin of it gives the operator's current version, or a later one. The operator has its whole log.
+    /// Makes one peek; then the operator makes one scan of this worker. The worker has then seen all that the operator
+    /// published so far, and each later pin of the worker loads the operator's current version, or a later one. The
+    /// operator then knows the worker's whole log.
     pub fn meet(&mut self, operator: &mut Operator)
         requires { self.old.table ≡ operator.old.table }
         ensures meets_by_two_steps { Meets self.old self.new operator.old operator.new }
@@ -96,8 +97,8 @@ impl Worker {
         operator.meet(&mut self.seat);
     }
 
-    /// Makes one peek: what the other worker has seen this one has seen then, and each later pin of it gives the newest
-    /// version of these, or a later one. The other makes no step.
+    /// Makes one peek. This worker has then seen all that the other one has seen, and each later pin of this worker
+    /// loads the newest of these versions, or a later one. The other worker makes no step.
     pub fn meet_worker(&mut self, other: &mut Worker)
         requires { self.old.table ≡ other.old.table }
         ensures meets_by_one_step { (x : ℕ) × (seen : List (List Group)) × Shows the_shape x seen self.old.view.seen × (self.new ≡ steps (after_peek the_shape.rows x seen) self.old) }
@@ -151,7 +152,7 @@ impl Worker {
         self.cache.insert(i, Extent { version, ..extent });
     }
 
-    // Where it is, it holds a version, whose row has words.
+    // If it is inside, it holds a version, whose row has words.
     pub(crate) fn is_inside(&self) -> bool
         ensures { length (held_words self.now) ≡ (if result then the_shape.row_words else 0) }
     {
@@ -167,7 +168,7 @@ impl Worker {
         }
     }
 
-    // One leave step where a version is held.
+    // One leave step, if a version is held.
     pub(crate) fn leave(&mut self)
         ensures left { self.new ≡ steps left self.old }
         ensures ends_in_fetches { EndsInFetches self.old }

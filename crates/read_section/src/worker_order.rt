@@ -1,4 +1,4 @@
-//! In which order a command takes workers (docs/DECISIONS.md, "Which worker is taken first").
+//! The order in which a command takes workers (docs/INTERNALS.md, "Which worker is taken first").
 
 ghost use Rattle.std.specs.Prelude.{◌≡◌, ◌≤◌, vec_len, IsPermutation};
 ghost use Rattle.read_section.specs.WorkerOrder.{IsSpread};
@@ -9,13 +9,13 @@ ghost use Rattle.versions.specs.declared.layout.TheConstants.{WORKERS};
 use crate::worker::Worker;
 use versions::WORKERS;
 
-// Read words that are so many words apart never share a cache line of 64 bytes.
+// Read words that are this many words apart never share a cache line of 64 bytes.
 const APART: usize = 8;
 
-// The workers behind the first eight, in lines of eight.
+// The workers after the first eight, in lines of eight.
 const LINES: usize = WORKERS / APART - 1;
 
-// Moves the worker at a place behind the others.
+// Moves the worker at a place to the end.
 fn move_to_end(workers: &mut Vec<Worker>, place: usize)
     ensures moved { workers.new.items ≡ moved_to_end place workers.old.items }
     ensures same_workers { IsPermutation workers.old.items workers.new.items }
@@ -30,8 +30,8 @@ fn move_to_end(workers: &mut Vec<Worker>, place: usize)
     };
 }
 
-// Each line has `left` workers left. Moves the first worker of each line to the end, the last line's before the others'. Worker 7
-// stands before the lines.
+// Each line has `left` workers left. Moves the first worker of each line to the end, the last line's before the
+// others'. Worker 7 is before the lines.
 fn move_first_of_lines(workers: &mut Vec<Worker>, left: usize)
     requires { left ≤ APART }
     ensures moved { workers.new.items ≡ first_of_lines_moved left 7 workers.old.items }

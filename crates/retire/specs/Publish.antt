@@ -1,4 +1,4 @@
--- What a publication does: scans where no row is free, fills of one free row and of free pages, and one store of `current`.
+-- The steps of a publication: scans if no row is free, fills of one free row and of free pages, and one store of `current`.
 use Rattle.std.specs.Prelude.{◌≡◌, ◌≢◌, ◌+◌, ◌++◌, ◌*◌, ◌<◌, ◌≤◌, ◌⊎◌, ◌∷◌, IsErrAnd, List, None, Result, Some, [], drop, length, slice_get, slice_index, take, ℕ}
 use mathlib.Core.Option.{some}
 use lib.ListN.{get_elem?}
@@ -22,7 +22,7 @@ use Rattle.read_section.specs.Operator.{HasFreeRow, IsCurrent, OperatorValue, sc
 abbrev pub IsRefusedAs : {T F C : Type 0} → F → Result T (F × C) → Type 0
 IsRefusedAs fault result = IsErrAnd result (λ refusal. refusal.0 ≡ fault)
 
--- what a scan gave and told
+-- the word that a scan loaded, and the log that it showed
 pub record Scanned : Type 0 where
   pub word : ℕ
   pub log : List Entry
@@ -32,7 +32,7 @@ abbrev pub after_scans : List Scanned → OperatorValue → OperatorValue
 after_scans [] operator = operator
 after_scans (last ∷ earlier) operator = scanned (length earlier) last.word last.log (after_scans earlier operator)
 
--- each scan told a log of its worker
+-- each scan showed a log of its worker
 abbrev pub TellLogs : List Scanned → OperatorValue → Type 0
 TellLogs [] operator = Unit {0}
 TellLogs (last ∷ earlier) operator =
@@ -45,18 +45,18 @@ pub record ScansEach (before after : OperatorValue) : Type 0 where
   pub tell : TellLogs scans before
   pub no_more : after ≡ after_scans scans before
 
--- where a row is free nothing is scanned; else the read word of each worker is, once
+-- if a row is free nothing is scanned; otherwise the read word of each worker is, once
 abbrev pub LooksForRow : OperatorValue → OperatorValue → Type 0
 LooksForRow before after = (HasFreeRow before.view × (after ≡ before)) ⊎ ((HasFreeRow before.view → ⊥) × ScansEach before after)
 
--- a fill of a place of row r by the word that a list has there; another word stands there in `stored`
+-- a fill of a place of row r by the word that a list has there; another word is there in `stored`
 pub record IsFillOf (stored : List ℕ) (r : ℕ) (words : List ℕ) (newest : Entry) : Type 0 where
   pub place : ℕ
   pub inside : place < length words
   pub differs : slice_index stored (r * ROW_WORDS + place) ≢ slice_index words place
   pub fill : newest ≡ entry (Fill (row_begin the_shape r + place) (slice_index words place)) (slice_index words place)
 
--- a fill of a free page by a word of the configuration's part that stands there
+-- a fill of a free page by a word of the configuration's part that is there
 pub record IsPartFill (view : OperatorView (List Group)) (config : List Group) (pages : List ℕ) (newest : Entry) : Type 0 where
   pub index : ℕ
   pub page : ℕ
@@ -69,21 +69,21 @@ pub record IsPartFill (view : OperatorView (List Group)) (config : List Group) (
   pub word_is : slice_get part k ≡ Some x
   pub fill : newest ≡ entry (Fill (page_begin the_shape page + k) x) x
 
--- a fill of the pooled form: of a word of row r that differs from the one that stood there, or of a word of a part in a page that
+-- a fill of the pooled form: of a word of row r that differs from the one that was there, or of a word of a part in a page that
 -- was free
 abbrev pub IsFormFill : OperatorView (List Group) → ℕ → List Group → List ℕ → Entry → Type 0
 IsFormFill view r config pages newest = IsFillOf view.stored r (pooled_row config pages) newest ⊎ IsPartFill view config pages newest
 
--- the pages of each program, where programs stand in pages one behind the other
+-- the pages of each program, if the programs are in the pages one after the other
 abbrev pub pages_of_each : List (List ℕ) → List ℕ → List (List ℕ)
 pages_of_each [] pages = []
 pages_of_each (words ∷ rest) pages = take (pages_for (length words)) pages ∷ pages_of_each rest (drop (pages_for (length words)) pages)
 
--- one of the programs that stand in these pages has these words, and its own pages are these
+-- one of the programs in these pages has these words, and its own pages are these
 abbrev pub HasPages : List (List ℕ) → List ℕ → List ℕ → List ℕ → Type 0
 HasPages programs pages words own = (index : ℕ) × (slice_get programs index ≡ Some words) × (slice_get (pages_of_each programs pages) index ≡ Some own)
 
--- a program takes the pages of a program of the version before that has the same words, and free pages where there is none
+-- a program takes the pages of a program of the version before that has the same words, and free pages if there is none
 abbrev pub TakesFor : OperatorView (List Group) → List (List ℕ) → List ℕ → List ℕ → List ℕ → Type 0
 TakesFor view earlier current_pages words own =
     HasPages earlier current_pages words own ⊎ ((Contains earlier words → ⊥) × ((index page : ℕ) → slice_get own index ≡ Some page → IsFreePage the_shape view page))
@@ -93,19 +93,19 @@ abbrev pub RiseWhereFree : OperatorView (List Group) → List ℕ → Type 0
 RiseWhereFree view pages = (index later page other : ℕ) → index < later → slice_get pages index ≡ Some page → slice_get pages later ≡ Some other
     → IsFreePage the_shape view page → IsFreePage the_shape view other → page < other
 
--- the programs of a version take their pages, one program behind the other, beside the programs of the version before and the pages
--- where these stand; of the free pages they take the least ones, in order
+-- the programs of a version take their pages, one program after the other, given the programs of the version before and their
+-- pages; of the free pages they take the least ones, in order
 pub record TakesPages (view : OperatorView (List Group)) (earlier : List (List ℕ)) (current_pages : List ℕ) (programs : List (List ℕ)) (pages : List ℕ) : Type 0 where
   pub each : (index : ℕ) (words own : List ℕ) → slice_get programs index ≡ Some words → slice_get (pages_of_each programs pages) index ≡ Some own → TakesFor view earlier current_pages words own
   pub rise : RiseWhereFree view pages
   pub least : (index page q : ℕ) → slice_get pages index ≡ Some page → IsFreePage the_shape view page → IsFreePage the_shape view q → q < page → (j : ℕ) × (slice_get pages j ≡ Some q)
 
--- the words of all rows but r are as they were
+-- the words of all rows except r are as they were
 abbrev pub KeepsOtherRows : ℕ → OperatorValue → OperatorValue → Type 0
 KeepsOtherRows r before after = (q i : ℕ) → (q ≡ r → ⊥) → q < ROWS → i < ROW_WORDS
     → slice_index after.view.stored (q * ROW_WORDS + i) ≡ slice_index before.view.stored (q * ROW_WORDS + i)
 
--- and so are the words of all pages but those of these that were free
+-- the words of all pages except those of these that were free are as they were
 abbrev pub KeepsOtherPages : OperatorView (List Group) → List ℕ → OperatorValue → OperatorValue → Type 0
 KeepsOtherPages view pages before after = (q k : ℕ) → ((index : ℕ) → slice_get pages index ≡ Some q → IsFreePage the_shape view q → ⊥) → q < PAGES → k < PAGE_WORDS
     → slice_index after.view.stored (ROWS * ROW_WORDS + (q * PAGE_WORDS + k)) ≡ slice_index before.view.stored (ROWS * ROW_WORDS + (q * PAGE_WORDS + k))
@@ -115,9 +115,9 @@ pub record IsLeastFreeRow (operator : OperatorValue) (r : ℕ) : Type 0 where
   pub free : IsFreeRow the_shape operator.view r
   pub least : (q : ℕ) → IsFreeRow the_shape operator.view q → r ≤ q
 
--- a configuration is published: a free row is looked for, and pages are taken for its parts, one for each, beside the version that is
--- current. Of the pages those that are free, and of the least free row the words that differ, are filled by words of the pooled form,
--- and the row is stored in `current` as that of the next version
+-- a configuration is published: a free row is looked for, and pages are taken for its parts, one for each, given the version that
+-- is current. The free ones of these pages, and the words of the least free row that differ, are filled by words of the pooled
+-- form, and the row is stored in `current` as that of the next version
 pub record Publishes (before after : OperatorValue) (config : List Group) : Type 0 where
   pub found : OperatorValue
   pub looked : LooksForRow before found
@@ -153,8 +153,8 @@ pub record SharesEqualPrograms (before after : OperatorValue) (config : List Gro
   pub unfilled : (index i page : ℕ) (words own : List ℕ) → slice_get (words_of_programs config) index ≡ Some words → slice_get (pages_of_each (words_of_programs config) publication.pages) index ≡ Some own
       → Contains (words_of_programs publication.earlier) words → slice_get own i ≡ Some page → IsUnfilled publication.fills page
 
--- the version that was published stands in a row and in pages that hold the configuration now; no word of another row changed, nor of
--- another page or of one that was not free
+-- the version that was published is in a row and in pages that contain the configuration now; no word of another row changed, nor
+-- of another page or of one that was not free
 pub record StandsInRow (before after : OperatorValue) (config : List Group) : Type 0 where
   pub found : OperatorValue
   pub looked : LooksForRow before found
@@ -166,7 +166,7 @@ pub record StandsInRow (before after : OperatorValue) (config : List Group) : Ty
   pub others : KeepsOtherRows taken before after
   pub other_pages : KeepsOtherPages found.view pages before after
 
--- some scan gave a word from 1 to m + 1
+-- some scan loaded a word from 1 to m + 1
 abbrev pub HoldsBack : ℕ → List Scanned → Type 0
 HoldsBack m scans = (scan : Scanned) × Contains scans scan × (0 < scan.word) × (scan.word ≤ m + 1)
 

@@ -8,7 +8,8 @@ ghost use Rattle.retire.specs.body.Allocation.{IsAllocation, AllocatesFree};
 use read_section::Operator;
 use std::marker::Model;
 
-/// The pages that are allocated so far, at most `N` of them, and where the next free page is looked for.
+/// The pages that are allocated so far, at most `N` of them, and the place at which the search for the next free page
+/// begins.
 #[derive(Drop)]
 pub(crate) struct Allocation<const N: usize> {
     pages: [u32; N],
@@ -59,7 +60,7 @@ impl<const N: usize> Allocation<N> {
         self.len = end;
     }
 
-    /// Allocates so many free pages, the least ones that are left.
+    /// Allocates `count` free pages, the least ones that are left.
     pub(crate) fn allocate(&mut self, operator: &Operator, count: usize)
         requires row { HasFreeRow operator.now.view }
         requires room { length self.old.pages + count ≤ N }
@@ -76,14 +77,14 @@ impl<const N: usize> Allocation<N> {
         }
     }
 
-    /// The number of pages.
+    /// Returns the number of pages.
     pub(crate) fn count(&self) -> usize
         ensures { result ≡ length self.now.pages }
     {
         self.len
     }
 
-    /// The page after the last free page that was allocated, or 0.
+    /// Returns the page after the last free page that was allocated, or 0.
     pub(crate) fn end(&self) -> usize
         ensures { result ≡ self.now.from }
     {

@@ -18,7 +18,7 @@ use member_group::Config;
 use read_section::Operator;
 use std::alloc::Global;
 
-/// Programs that are left of a version, and the pages where they stand, one behind the other.
+/// Programs that are left of a version, and their pages, one program after the other.
 #[derive(Drop)]
 pub(crate) struct PagedPrograms<'a> {
     programs: Programs<'a, Global>,
@@ -50,8 +50,8 @@ fn same_four(words: &[u64], other: &[u64], at: usize) -> bool
         & (words[at + 3] == other[at + 3])
 }
 
-// Most programs are short, and equal: so four words are tested at once, without a call. The last four of them may have been tested
-// before in part.
+// Most programs are short, and equal, so four words are tested at once, without a call. The last four of them may have
+// been tested before in part.
 // The reason: docs/INTERNALS.md, "Words are compared four at a time".
 #[inline(always)]
 pub(crate) fn same_words(words: &[u64], other: &[u64]) -> bool
@@ -75,7 +75,7 @@ pub(crate) fn same_words(words: &[u64], other: &[u64]) -> bool
 }
 
 impl<'a> PagedPrograms<'a> {
-    /// All programs of a configuration, in these pages.
+    /// Returns all programs of a configuration, in these pages.
     pub(crate) fn of(config: &'a Config, pages: &'a [u32]) -> PagedPrograms<'a>
         requires counted { IsCounted (words_of_programs config.now) pages.now }
         ensures programs { result.programs ≡ words_of_programs config.now }
@@ -100,7 +100,7 @@ impl<'a> PagedPrograms<'a> {
         Some((words, own))
     }
 
-    // Passes the next program, and gives its pages if it has these words.
+    // Passes the next program, and returns its pages if it has these words.
     fn next_equal(&mut self, words: &[u64]) -> Option<&'a [u32]>
         requires counted { IsCounted self.old.programs self.old.pages.now }
         ensures some { IfSome result (λ own. IsNext self.old.programs self.old.pages.now words.now own.now self.new.programs self.new.pages.now) }
@@ -116,8 +116,8 @@ impl<'a> PagedPrograms<'a> {
         None
     }
 
-    // Passes programs as long as they have the words of the next ones here, and gives the pages of these. Gives the first program that
-    // differs, too: it was passed, and so was the next one here.
+    // Passes programs as long as they have the words of the next ones here, and returns the pages of these. Also
+    // returns the first program that differs: it was passed, and so was the next one here.
     // The reason: docs/INTERNALS.md, "Programs are passed in runs".
     fn pass_equal<'b>(
         &mut self,
@@ -140,7 +140,7 @@ impl<'a> PagedPrograms<'a> {
         (&pages[..count], None)
     }
 
-    // Passes programs up to the first one that has these words, and gives its pages.
+    // Passes programs up to the first one that has these words, and returns its pages.
     fn find(&mut self, words: &[u64]) -> Option<&'a [u32]>
         requires counted { IsCounted self.old.programs self.old.pages.now }
         ensures some { IfSome result (λ own. HasPages self.old.programs self.old.pages.now words.now own.now) }
@@ -166,7 +166,7 @@ pub(crate) struct Current<'a> {
 }
 
 impl<'a> Current<'a> {
-    /// The operator's current version, of which no program was passed.
+    /// Returns the operator's current version, with no program passed.
     pub(crate) fn of(operator: &'a Operator) -> Current<'a>
         ensures current { IsCurrent operator.now.view result.config.now }
         ensures stands { StandsIn operator.now.view result.config.now result.pages.now }
@@ -197,8 +197,8 @@ impl<'a> Current<'a> {
         compare(config, self.config)
     }
 
-    /// Takes the pages of programs as long as they have the words of those of the current version that come next. Gives the first
-    /// program that differs: if few programs change, nearly all are passed at once.
+    /// Shares the pages of programs as long as they have the words of the next programs of the current version. Returns
+    /// the first program that differs. If few programs change, nearly all are passed at once.
     pub(crate) fn share_equal<'b, const N: usize>(
         &mut self,
         programs: &mut Programs<'b, Global>,
@@ -216,9 +216,9 @@ impl<'a> Current<'a> {
         differs
     }
 
-    /// The pages of a program of the current version that has these words, `None` where there is none.
+    /// Returns the pages of a program of the current version that has these words, `None` if there is none.
     ///
-    /// It is looked for among all of them, and what follows it is compared next.
+    /// The program is searched for among all of them, and the programs after it are compared next.
     pub(crate) fn find_equal(&mut self, words: &[u64]) -> Option<&'a [u32]>
         requires passing { IsPassing (words_of_programs self.old.config.now) self.old.pages.now self.old.left.programs self.old.left.pages.now }
         ensures some { IfSome result (λ own. HasPages (words_of_programs self.old.config.now) self.old.pages.now words.now own.now) }

@@ -1,4 +1,4 @@
-//! The diff of the next configuration and the current one: mostly the words of one program.
+//! The diff of the next configuration and the current one: usually the words of one program.
 
 ghost use Rattle.std.specs.Prelude.{◌≡◌, ◌+◌, ◌≤◌, ◌∷◌, IfSome, IsTrue, [], length};
 ghost use Rattle.std.specs.Option.{option_map, option_to_list};
@@ -19,14 +19,14 @@ use std::alloc::Global;
 /// lengths, and one program at most that has other words.
 #[derive(Drop)]
 pub(crate) struct Walk<'a> {
-    // How many pages the programs take that were passed.
+    // The number of pages of the programs that were passed.
     pages: usize,
-    // The program that has other words, and how many pages are before its own.
+    // The program that has other words, and the number of pages before its own.
     pub(crate) differs: Option<(&'a [u64], usize)>,
 }
 
 impl<'a> Walk<'a> {
-    // Passes a program on both sides, and tells whether the walk goes on.
+    // Passes a program on both sides, and returns whether the walk goes on.
     #[inline(always)]
     fn pass(&mut self, words: &'a [u64], other: &[u64]) -> bool
         requires room { self.old.pages + pages_for (length words.now) ≤ PAGE_LIMIT }
@@ -132,9 +132,9 @@ fn walk_groups<'a>(
     true
 }
 
-/// Compares two configurations. Gives none where they are not alike, or where more than one program has other words.
+/// Compares two configurations. Returns `None` if they are not alike, or if more than one program has other words.
 ///
-/// Where they are alike their rows differ in the pages that they name, and in nothing else.
+/// If they are alike, their rows differ in the pages that they name, and in nothing else.
 /// When it gives up: docs/INTERNALS.md, "A row is reused if one program alone changes".
 pub(crate) fn compare<'a>(config: &'a Config, other: &Config) -> Option<Walk<'a>>
     requires room { pages_in (words_of_programs config.now) ≤ PAGE_LIMIT }

@@ -12,12 +12,12 @@ pub enum PublishFault {
     TooBig,
     /// B3: the current version has the last number.
     Exhausted,
-    /// B2: no row is free, also after a scan of each read word.
+    /// B2: no row is free, even after a scan of each read word.
     Busy,
 }
 
 impl PublishFault {
-    /// The code (docs/COMMANDS.md, "Refusals").
+    /// Returns the code (docs/COMMANDS.md, "Refusals").
     pub fn code(self) -> Code
         ensures { result ≡ publish_code self }
     {

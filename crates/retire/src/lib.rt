@@ -1,7 +1,8 @@
-//! Publishing and reclaiming: what an operator of the version table does, made of single steps (Desnoyers et al. 2012;
+//! Publishing and reclaiming: the work of an operator of the version table, in single steps (Desnoyers et al. 2012;
 //! docs/TABLE.md, "Publishing", "When a version is free").
 //!
-//! `Retire::publish` never waits for a grace period, and `Retire::sweep` tells which versions have ended theirs.
+//! `Retire::publish` never waits for a grace period, and `Retire::sweep` returns the versions whose grace period has
+//! ended.
 #![tactic(auto)]
 
 ghost use Rattle.std.specs.Prelude.{◌≡◌, ◌+◌, ◌<◌, ◌≤◌, ◌↔◌, IfErr, IfOk, OnOk};
@@ -27,16 +28,18 @@ use read_section::Operator;
 pub use read_section::Reclaimed;
 use versions::{CHARGE_LIMIT, LAST_NUMBER};
 
-/// What the operator of a table does with versions: it publishes them, and reports those that may be reused.
+/// The operator's work on versions: it publishes them, and reports those that may be reused.
 pub trait Retire {
     ghost operator: { Self → OperatorValue };
 
-    /// Publishes a configuration as the next version, and answers its number, counted from 0.
+    /// Publishes a configuration as the next version, and returns its number, counted from 0.
     ///
-    /// A program whose words equal those of a program of the current version takes its pages, and no fill is made for it. The others
-    /// take the least free pages, one for each part, and fill them. Of the least free row the words that are not there already are
-    /// filled. Then `current` is stored. Where no row is free it first scans each read word once, and answers `Busy` if that
-    /// freed none: it never waits for a grace period. Takes no memory.
+    /// A program whose words equal those of a program of the current version takes its pages, and no fill is made for
+    /// it. The other programs take the least free pages, one for each part, and fill them. In the least free row, only
+    /// words that are not there already are filled. Then `current` is stored.
+    ///
+    /// If no row is free, it first scans each read word once. It returns `Busy` if that freed none: it never waits for
+    /// a grace period. Takes no memory.
     fn publish(&mut self, config: Config) -> Result<u64, (PublishFault, Config)>
         ensures published_exactly { OnOk result (Publishes (operator self.old) (operator self.new) config) }
         ensures equal_programs_shared { OnOk result (SharesEqualPrograms (operator self.old) (operator self.new) config) }
@@ -49,12 +52,12 @@ pub trait Retire {
             ↔ ((charge_of config ≤ CHARGE_LIMIT) × (number_after (operator self.old).view.log ≡ LAST_NUMBER)) }
         ensures busy { IsRefusedAs PublishFault.Busy result → IsBusy (operator self.old) (operator self.new) }
 
-        // A refusal hands the configuration back; but for the scans of `Busy` nothing was done.
+        // A refusal hands the configuration back. Except for the scans of `Busy`, nothing was done.
         ensures handed_back { IfErr result (λ refusal. refusal.1 ≡ config) }
         ensures kept { IfErr result (λ refusal. (refusal.0 ≡ PublishFault.Busy → ⊥) → operator self.new ≡ operator self.old) };
 
-    /// Scans each read word once, and tells which versions are free since: those from `first` on, `count` of them, that no report
-    /// told before. It may be none. Takes no memory and never waits.
+    /// Scans each read word once, and returns the versions that are free and were not reported before: `count` of them,
+    /// from `first` on. There may be none. Takes no memory and never waits.
     fn sweep(&mut self) -> Reclaimed
         ensures sweep_exact { Sweeps (operator self.old) (operator self.new) result.first result.count };
 }

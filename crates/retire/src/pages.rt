@@ -1,4 +1,4 @@
-//! Pages of the pool: which are allocated to a configuration's programs, and how they are filled.
+//! Pages of the pool: allocating them to a configuration's programs, and filling them.
 
 ghost use Rattle.std.specs.Prelude.{◌≡◌, ◌+◌, ◌<◌, ◌≤◌, ◌↔◌, IfNone, IfSome, IsTrue, Some, [], drop, length, slice_get, take, ℕ};
 ghost use Rattle.std.specs.List.{flat_map};
@@ -134,8 +134,8 @@ fn choose_alike<'a, const N: usize>(
     })
 }
 
-// The pages of the next version's programs: those of equal programs of the current version, else the least free ones, in order. They
-// go into the caller's `allocation`: as a result they would be copied.
+// The pages of the next version's programs: those of equal programs of the current version, otherwise the least free
+// ones, in order. They go into the caller's `allocation`: as a result they would be copied.
 pub(crate) fn choose_pages<'a, const N: usize>(
     operator: &Operator,
     config: &'a Config,
@@ -159,7 +159,7 @@ pub(crate) fn choose_pages<'a, const N: usize>(
     }
 }
 
-// Fills free pages by the words of a program.
+// Fills free pages with the words of a program.
 fn fill_program(operator: &mut Operator, words: &[u64], own: &[u32])
     requires free { AreFreePages operator.old own.now }
     requires counted { length own.now ≡ pages_for (length words.now) }
@@ -181,8 +181,8 @@ fn begins_free(operator: &Operator, own: &[u32]) -> bool
     operator.page_is_free(own[0] as usize)
 }
 
-// Fills the first pages by the words of a program, unless it stands there. Gives these pages where they were filled, and none where
-// they were not, and the pages that are left.
+// Fills the first pages with the words of a program, unless it is there already. Returns these pages if they were
+// filled, otherwise none; and the pages that are left.
 fn fill_new<'a>(operator: &mut Operator, words: &[u64], pages: &'a [u32]) -> (&'a [u32], &'a [u32])
     requires enough { pages_for (length words.now) ≤ length pages.now }
     requires ready { IsReady operator.old words.now (take (pages_for (length words.now)) pages.now) }
@@ -206,7 +206,7 @@ fn ends_before(own: &[u32], end: usize) -> bool
     len > 0 && own[len - 1] as usize + 1 == end
 }
 
-// Stops behind the last of the pages that were free, which is the one before `end`.
+// Stops after the last of the pages that were free, which is the one before `end`.
 // Why it stops at `end`: docs/INTERNALS.md, "Which programs are filled".
 fn fill_programs(operator: &mut Operator, programs: Programs<'_, Global>, pages: &[u32], end: usize)
     requires ready { AreReady operator.old programs pages.now }
@@ -224,7 +224,7 @@ fn fill_programs(operator: &mut Operator, programs: Programs<'_, Global>, pages:
     }
 }
 
-// Fills a program into its pages where these have the last page that is free, and tells whether it did.
+// Fills a program into its pages if these have the last page that is free, and returns whether it did.
 fn fill_last(operator: &mut Operator, words: &[u64], own: &[u32], end: usize) -> bool
     requires counted { length own.now ≡ pages_for (length words.now) }
     requires ready { IsReady operator.old words.now own.now }
@@ -238,8 +238,8 @@ fn fill_last(operator: &mut Operator, words: &[u64], own: &[u32], end: usize) ->
     true
 }
 
-// Fills those pages that are free by the words of a configuration's programs, each program from the first word of a page on. No free
-// page is `end` or behind it, and none is before those of the program that is told first.
+// Fills those pages that are free with the words of a configuration's programs, each program from the first word of a
+// page on. No free page is `end` or after it, and none is before those of the program `first`.
 pub(crate) fn fill_pages(
     operator: &mut Operator,
     config: &Config,

@@ -1,4 +1,4 @@
-//! Free rows: how one is found, and how it is filled.
+//! Free rows: finding one, and filling it.
 
 ghost use Rattle.std.specs.Prelude.{◌≡◌, ◌+◌, IfNone, IfSome, IsTrue, length};
 ghost use Rattle.config_image.specs.Image.{programs_begin};
@@ -39,7 +39,7 @@ fn free_row(operator: &Operator) -> Option<usize>
     None
 }
 
-// The least free row. Where there is none at first, each read word is scanned once.
+// The least free row. If there is none at first, each read word is scanned once.
 pub(crate) fn look_for_row(operator: &mut Operator) -> Option<usize>
     ensures some { IfSome result (IsLeastFreeRow operator.new) }
     ensures looked { IfSome result (λ row. LooksForRow operator.old operator.new) }
@@ -80,7 +80,8 @@ fn fill_words(
     begin + names
 }
 
-// Fills a row until it is the configuration's, where its parts stand in these pages; words that stand already are left alone.
+// Fills a row until it is the configuration's, with its parts in these pages. Words that are there already are left
+// alone.
 pub(crate) fn fill_row(
     operator: &mut Operator,
     row: usize,

@@ -16,8 +16,8 @@ use member_group::Config;
 use read_section::Operator;
 use std::marker::{Brand, Model, PhantomData};
 
-/// The operator as it was when a sink was lent it. A sink's type tells it, since whoever writes into a sink is told of it only
-/// which words it took.
+/// The operator as it was when it was lent to a sink. It is part of a sink's type, since a caller that writes into a
+/// sink learns only which words the sink took.
 pub(crate) trait Lent {
     ghost operator: { OperatorValue };
 }
@@ -57,7 +57,7 @@ impl<L: Lent> WordSink for RowSink<'_, L> {
     }
 }
 
-// Stores a word at a place of a free row, unless it stands there already.
+// Stores a word at a place of a free row, unless it is there already.
 pub(crate) fn fill_other(operator: &mut Operator, row: usize, place: usize, word: u64)
     requires free { IsFreeRow the_shape operator.old.view row }
     requires place { place < ROW_WORDS }
@@ -68,8 +68,8 @@ pub(crate) fn fill_other(operator: &mut Operator, row: usize, place: usize, word
     }
 }
 
-// Fills the first places of a free row by the words of a configuration's row that are not its last zeros, and tells how many there
-// are.
+// Fills the first places of a free row with the words of a configuration's row that are not its last zeros, and returns
+// their number.
 pub(crate) fn fill_front<L: Lent>(
     operator: &mut Operator,
     row: usize,

@@ -1,4 +1,4 @@
-//! A version, as it is made: its pages and then its row are filled.
+//! Making a version: its pages and then its row are filled.
 
 ghost use Rattle.std.specs.Prelude.{◌≡◌, ◌≤◌, List, length, ℕ};
 ghost use Rattle.member_group.specs.Charge.{charge_of};
@@ -19,10 +19,10 @@ use read_section::Operator;
 // Most configurations take no more pages than these. Room for them is made ready in less time than room for all.
 const FEW_PAGES: usize = 800;
 
-// Where no more is charged the pages are few, since each page costs four words of the image at least.
+// Up to this charge the pages are few, since each page costs four words of the image at least.
 const FEW_CHARGE: u64 = 4 * FEW_PAGES as u64;
 
-// Chooses pages, of which there are at most N, fills those that are free, and a free row, so that they hold the configuration.
+// Chooses pages, at most N of them, and fills the free ones and a free row, so that they contain the configuration.
 fn fill_by<const N: usize>(operator: &mut Operator, row: usize, config: &Config)
     requires free { IsFreeRow the_shape operator.old.view row }
     requires publishable { IsPublishable config.now }

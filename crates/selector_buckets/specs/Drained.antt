@@ -3,7 +3,7 @@ use Rattle.std.specs.Prelude.{◌≡◌, ◌≢◌, ◌==◌, ◌&&◌, ◌⊎�
 use Rattle.selector_buckets.specs.declared.TheConstants.{MEMBER_LIMIT}
 use Rattle.selector_buckets.specs.Shares.{HasMembersOnly, share_of}
 
--- of so many members the one at this index can hand over its buckets: there are others, and each bucket is a member's
+-- of `count` members the one at this index can hand over its buckets: there are others, and each bucket is a member's
 abbrev pub CanDrain : ℕ → ℕ → List ℕ → Type 0
 CanDrain count gone members = (2 ≤ count) × (gone < count) × (count ≤ MEMBER_LIMIT) × HasMembersOnly count members
 
@@ -39,7 +39,7 @@ index_after count gone member = if member == count - 1 then gone else member
 abbrev pub drained : ℕ → ℕ → List ℕ → List ℕ
 drained count gone members = map (index_after count gone) (handed_over count gone (length members) members)
 
--- ---- what is so of it
+-- ---- its properties
 
 -- no bucket of another member moves
 abbrev pub OthersStay : ℕ → ℕ → List ℕ → List ℕ → Type 0
@@ -53,7 +53,7 @@ AllAreTaken count gone before after =
     (bucket : ℕ) → bucket < length before → slice_index before bucket ≡ gone
     → (taker : ℕ) × (taker < count) × (taker ≢ gone) × (slice_index after bucket ≡ index_after count gone taker)
 
--- how many buckets of the one that left have this index afterwards
+-- the number of buckets of the one that left that have this index afterwards
 abbrev pub taken_by : ℕ → ℕ → List ℕ → List ℕ → ℕ
 taken_by gone index (before ∷ others) (after ∷ rest) = (if (before == gone) && (after == index) then 1 else 0) + taken_by gone index others rest
 taken_by gone index [] after = 0

@@ -12,7 +12,7 @@ use Rattle.selector_buckets.specs.declared.hash.HashBy.TheVariants.{Addresses, B
 abbrev pub mixed : ℕ → ℕ
 mixed key = key * MULTIPLIER % 2 ^ 32
 
--- what of the packet's source is hashed
+-- the part of the packet's source that is hashed
 abbrev pub key_of : HashBy → List ℕ → ℕ
 key_of Addresses packet = field_value Source packet
 key_of Ports packet = field_value SourcePort packet
@@ -21,7 +21,7 @@ key_of Both packet = (field_value Source packet + mixed (field_value SourcePort 
 abbrev pub hash_of : HashBy → List ℕ → ℕ
 hash_of by packet = mixed (key_of by packet)
 
--- how many hashes fall into each of so many buckets
+-- the number of hashes in each of this many buckets
 abbrev pub width_of : ℕ → ℕ
 width_of count = 2 ^ 32 / count
 

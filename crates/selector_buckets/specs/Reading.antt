@@ -1,4 +1,4 @@
--- Which programs are selectors of a table.
+-- The programs that are selectors of a table.
 use Rattle.std.specs.Prelude.{◌≡◌, List, ℕ}
 use Rattle.selector_buckets.specs.declared.hash.HashBy.{HashBy}
 use Rattle.selector_buckets.specs.Buckets.{BucketsValue, IsTable}

@@ -1,4 +1,4 @@
--- How many buckets each member gets: by the largest remainders (Hamilton's method of apportionment).
+-- The number of buckets of each member: by the largest remainders (Hamilton's method of apportionment).
 use Rattle.std.specs.Prelude.{◌*◌, ◌+◌, ◌-◌, ◌/◌, ◌%◌, ◌<◌, ◌≤◌, if◌then◌else◌, List, count_by, length, map, nat_eq, nat_lt, slice_index, slice_set, suc, sum, zero, ℕ}
 use Rattle.selector_buckets.specs.declared.TheConstants.{MEMBER_LIMIT}
 use Rattle.selector_buckets.specs.declared.share.Share.{Share}
@@ -40,17 +40,17 @@ unfoldable pub given_more : ℕ → Given → Given
 given_more zero given = given
 given_more (suc k) given = one_more (given_more k given)
 
--- what is given to each member, rounded down
+-- the buckets that are given to each member, rounded down
 abbrev pub given_whole : List ℕ → ℕ → Given
 given_whole weights count =
     record { quotas = map (λ weight. whole_share count (sum weights) weight) weights; remainders = map (λ weight. remainder count (sum weights) weight) weights }
 
--- how many buckets each member gets of so many
+-- the number of buckets of each member, of this many
 abbrev pub quotas_of : List ℕ → ℕ → List ℕ
 quotas_of weights count =
     let whole = given_whole weights count in (given_more (count - sum whole.quotas) whole).quotas
 
--- how many buckets of the table a member has
+-- the number of buckets of the table that a member has
 abbrev pub share_of : List ℕ → ℕ → ℕ
 share_of members member = count_by (λ other. nat_eq other member) members
 

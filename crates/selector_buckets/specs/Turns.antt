@@ -1,4 +1,5 @@
--- Which member gets which bucket: the members take turns, and each takes its next free bucket (Eisenbud et al., NSDI 2016, section 3.4).
+-- The member of each bucket: the members take turns, and each takes its next free bucket (Eisenbud et al., NSDI 2016, section
+-- 3.4).
 use Rattle.std.specs.Prelude.{◌==◌, ◌*◌, ◌+◌, ◌/◌, ◌%◌, ◌^◌, if◌then◌else◌, List, length, nat_lt, replicate, slice_index, slice_set, suc, zero, ℕ}
 use Rattle.selector_buckets.specs.declared.TheConstants.{FREE, SKIP_MULTIPLIER}
 use Rattle.selector_buckets.specs.Hash.{mixed}
@@ -11,7 +12,7 @@ offset_of id = mixed id / 2 ^ 16
 abbrev pub skip_of : ℕ → ℕ
 skip_of id = id * SKIP_MULTIPLIER % 2 ^ 32 / 2 ^ 16 * 2 + 1
 
--- the first free bucket, from one on and at most so many skips away
+-- the first free bucket, from one on and at most this many skips away
 unfoldable pub free_from : List ℕ → ℕ → ℕ → ℕ → ℕ
 free_from table skip zero bucket = bucket
 free_from table skip (suc k) bucket =
@@ -29,7 +30,7 @@ unfoldable pub turns : List ℕ → List ℕ → ℕ → ℕ → List ℕ → Li
 turns ids quotas round zero table = table
 turns ids quotas round (suc k) table = turn round (slice_index quotas k) (slice_index ids k) k (turns ids quotas round k table)
 
--- the table after so many rounds
+-- the table after this many rounds
 unfoldable pub rounds : List ℕ → List ℕ → ℕ → List ℕ → List ℕ
 rounds ids quotas zero table = table
 rounds ids quotas (suc k) table = turns ids quotas k (length ids) (rounds ids quotas k table)

@@ -16,7 +16,7 @@ use Rattle.selector_buckets.specs.Hash.{width_of}
 abbrev pub source_words : List ℕ
 source_words = word_of (LoadAbsolute Word 12) ∷ []
 
--- the source port is behind the IPv4 header, whose length X becomes
+-- the source port comes after the IPv4 header, whose length is loaded into X
 abbrev pub port_words : List ℕ
 port_words = word_of (LoadXHeader 0) ∷ word_of (LoadIndexed Half 0) ∷ []
 

@@ -55,7 +55,7 @@ pub fn drained(
     Ok(Buckets::new(buckets.depth(), members))
 }
 
-// How many buckets a member has.
+// Returns the number of buckets of a member.
 fn share(members: &[u8], member: u8) -> usize
     ensures { result ≡ share_of members.now member }
 {
@@ -68,7 +68,7 @@ fn share(members: &[u8], member: u8) -> usize
     share
 }
 
-// Of two members the one that has fewer buckets.
+// Returns the one of two members that has fewer buckets.
 fn fewer(members: &[u8], gone: u8, taker: u8, other: u8) -> u8
     ensures { result ≡ fewer members.now gone taker other }
 {
@@ -85,7 +85,7 @@ fn first_other(gone: u8) -> u8
     if gone == 0 { 1 } else { 0 }
 }
 
-// The member that has fewest buckets, without the one that leaves.
+// Returns the member that has fewest buckets, without the one that leaves.
 fn fewest(members: &[u8], gone: u8, count: u8) -> u8
     ensures { result ≡ fewest members.now gone count }
 {

@@ -8,7 +8,7 @@ use crate::MULTIPLIER;
 use bpf_insn::{Insn, Operand, Operation, Size};
 use std::alloc::{AllocError, Global};
 
-/// What of a packet's source is hashed.
+/// The part of a packet's source that is hashed.
 #[derive(Clone, Copy, Debug, PartialEq, Eq)]
 pub enum HashBy {
     /// The source address.
@@ -19,7 +19,7 @@ pub enum HashBy {
     Both,
 }
 
-/// Where the source address is in an IPv4 header.
+/// The place of the source address in an IPv4 header.
 pub const SOURCE: u32 = 12;
 
 fn push(words: &mut Vec<u64>, insn: Insn) -> Result<(), AllocError>

@@ -40,7 +40,7 @@ pub const MULTIPLIER: u32 = 2_654_435_761;
 // The odd number by which a member's ID is multiplied for its skip, modulo 2^32.
 const SKIP_MULTIPLIER: u32 = 2_246_822_519;
 
-// What a free bucket has in place of a member's index.
+// The value of a free bucket, in place of a member's index.
 const FREE: u8 = 255;
 
 /// Makes a table of 2^depth buckets that the members share by weight.
@@ -63,7 +63,7 @@ pub fn spread(alloc: Global, shares: &[Share], depth: u32) -> Result<Buckets, Ou
     Ok(Buckets::new(depth, members))
 }
 
-/// Returns the depth of a table of so many buckets, `None` if their number is not one of 1, 2, 4 .. 256.
+/// Returns the depth of a table of `count` buckets, `None` if their number is not one of 1, 2, 4 .. 256.
 pub fn depth_of(count: u32) -> Option<u32>
     ensures { MatchOption result ((depth : ℕ) → depth ≤ DEPTH_LIMIT → count ≢ 2 ^ depth) (λ depth. (depth ≤ DEPTH_LIMIT) × (count ≡ 2 ^ depth)) }
 {
@@ -110,7 +110,7 @@ pub fn selector(
     Ok(Program::charged(words, charge))
 }
 
-/// Reads the table of a selector that `selector` made: `None` exactly if the words are none.
+/// Reads the table of a selector that `selector` made. `None` if and only if the words are not such a selector.
 ///
 /// Fails if an allocation is refused.
 /// The reason: docs/INTERNALS.md, "The table is read by writing it again".

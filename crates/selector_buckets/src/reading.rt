@@ -1,4 +1,4 @@
-//! The way back: the table of a program that is a selector.
+//! Reading back the table of a program that is a selector.
 
 ghost use Rattle.std.specs.Prelude.{◌≡◌, ◌∷◌, ◌++◌, ◌+◌, ◌*◌, ◌^◌, ◌≤◌, IfNone, IfOk, IfSome, OnOk, drop, length, ℕ};
 ghost use Rattle.selector_buckets.specs.declared.TheConstants.{DEPTH_LIMIT};
@@ -14,7 +14,7 @@ use crate::hash::{self, HashBy};
 use bpf_insn::{Insn, Size};
 use std::alloc::{AllocError, Global};
 
-/// The table that the words are the selector of, if they are one's; of other words it may be any. `None` if they are none.
+/// Returns the table of words that are a selector. For other words, returns any table or `None`.
 pub fn candidate(alloc: Global, words: &[u64]) -> Result<Option<(HashBy, Buckets)>, AllocError>
     ensures some { IfOk result (λ read. IfSome read (λ found. (by : HashByValue) (buckets : BucketsValue) → IsSelectorOf words.now by buckets → (found.0 ≡ by) × (found.1 ≡ buckets))) }
     ensures none { IfOk result (λ read. IfNone read ((by : HashByValue) (buckets : BucketsValue) → IsSelectorOf words.now by buckets → ⊥)) }
@@ -33,7 +33,7 @@ pub fn candidate(alloc: Global, words: &[u64]) -> Result<Option<(HashBy, Buckets
     Ok(Some((by, Buckets::new(depth, members))))
 }
 
-// What is hashed, by the instructions of the hash.
+// Returns what is hashed, from the instructions of the hash.
 fn hash_by(words: &[u64]) -> HashBy
     ensures { result ≡ by_of words.now }
 {
@@ -46,7 +46,7 @@ fn hash_by(words: &[u64]) -> HashBy
     }
 }
 
-// How many instructions the hash has.
+// Returns the number of instructions of the hash.
 fn hash_len(by: HashBy) -> usize
     ensures { result ≡ length (hash_words by) }
 {
@@ -57,7 +57,7 @@ fn hash_len(by: HashBy) -> usize
     }
 }
 
-// The depth of a tree with so many words.
+// Returns the depth of a tree with this number of words.
 fn tree_depth(tree: &[u64]) -> Option<u32>
     ensures some { IfSome result (λ depth. (depth ≤ DEPTH_LIMIT) × (length tree.now + 1 ≡ 2 * 2 ^ depth)) }
     ensures none { IfNone result ((depth : ℕ) → depth ≤ DEPTH_LIMIT → length tree.now + 1 ≡ 2 * 2 ^ depth → ⊥) }

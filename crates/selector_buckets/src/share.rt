@@ -1,4 +1,4 @@
-//! How many buckets each member gets, by weight.
+//! The number of buckets of each member, by weight.
 
 ghost use Rattle.std.specs.Prelude.{◌≡◌, ◌+◌, ◌*◌, ◌^◌, ◌<◌, ◌≤◌, ◌↔◌, All, IfOk, IsTrue, length, map, sum};
 ghost use Rattle.selector_buckets.specs.Shares.{CanShare, given_more, greatest, ids_of, quotas_of, remainder, weights_of, whole_share};
@@ -6,7 +6,7 @@ ghost use Rattle.selector_buckets.specs.Shares.{CanShare, given_more, greatest, 
 use crate::MEMBER_LIMIT;
 use std::alloc::{AllocError, Global};
 
-/// The member of a selector with this ID, and its weight beside those of the others.
+/// The member of a selector with this ID, and its weight relative to the others.
 #[derive(Clone, Copy, Debug, PartialEq, Eq)]
 pub struct Share {
     pub id: u32,
@@ -107,7 +107,7 @@ fn remainders(
         .collect(alloc)
 }
 
-// Gives so many buckets more, each to the member with the greatest remainder.
+// Gives `more` further buckets, each to the member with the greatest remainder.
 fn give(quotas: &mut [u32], remainders: &mut [u32], more: u32)
     requires some { 0 < length remainders.old }
     requires each { length quotas.old ≡ length remainders.old }

@@ -1,4 +1,4 @@
-//! Which member gets which bucket: the members take turns.
+//! The member of each bucket: the members take turns.
 
 ghost use Rattle.std.specs.Prelude.{◌≡◌, ◌^◌, ◌<◌, ◌≤◌, IfOk, length, replicate};
 ghost use Rattle.selector_buckets.specs.declared.TheConstants.{FREE, MEMBER_LIMIT};
@@ -14,6 +14,7 @@ fn offset(id: u32) -> u32
     id.wrapping_mul(MULTIPLIER) >> 16
 }
 
+// The reason: docs/INTERNALS.md, "An odd skip".
 fn skip(id: u32) -> u32
     ensures skip { result ≡ skip_of id }
     ensures small { result < 2 ^ 17 }

@@ -1,4 +1,4 @@
--- What a control datagram is answered, and what that does (docs/COMMANDS.md, "serve").
+-- The answer to a control datagram, and its effect (docs/COMMANDS.md, "serve").
 use Rattle.std.specs.Prelude.{◌≡◌, ◌≢◌, List, None, Option, Some, codes, ℕ}
 use Rattle.control_line.specs.Answer.{IsAnswered}
 use Rattle.control_line.specs.Reply.{reply_text}
@@ -22,18 +22,18 @@ pub record IsOther (text : List ℕ) : Type 0 where
   pub not_totals : text ≢ codes "totals"
   pub not_counters : (asked : CountKey) → IsAskable asked → text ≢ asked_text asked
 
--- the reply to a control line, or what is told where memory was refused and so nothing was done
+-- the reply to a control line, or the reply if memory was refused and so nothing was done
 pub data RepliesToLine (text : List ℕ) (before after : OperatorValue) : List ℕ → Type 0 where
   replied : (answer : LineAnswer) → IsAnswered text before after answer → RepliesToLine text before after (reply_text answer)
   no_memory : after ≡ before → RepliesToLine text before after (codes "failed E3")
 
--- what answers a request: the operator, the tally, and the table of counters by member, if it is known
+-- the state that answers a request: the operator, the tally, and the table of counters by member, if it is known
 pub record Service : Type 0 where
   pub operator : OperatorValue
   pub tally : TallyValue
   pub members : Option Table
 
--- one case a kind of text; what a case does not mention stays as it was
+-- one case for each kind of text; everything that a case does not mention is unchanged
 pub data AnswersText (text : List ℕ) (before after : Service) : ControlAnswer → Type 0 where
   stops : text ≡ codes "stop" → after ≡ before → AnswersText text before after Stop
   tells_totals : (totals : Totals) → text ≡ codes "totals" → after ≡ record before { tally = all_loaded totals before.tally } →
@@ -56,7 +56,7 @@ IsTotals Stop = ⊥
 IsTotals (TotalsAnswer totals) = Unit {0}
 IsTotals (Line reply) = ⊥
 
--- what is sent back
+-- the bytes that are sent back
 abbrev pub bytes_of : ControlAnswer → List ℕ
 bytes_of Stop = codes "ok stop"
 bytes_of (TotalsAnswer totals) = totals_text totals

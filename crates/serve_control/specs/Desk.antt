@@ -1,4 +1,4 @@
--- What an exchange at the desk does (docs/COMMANDS.md, "serve").
+-- The effect of an exchange at the desk (docs/COMMANDS.md, "serve").
 use Rattle.std.specs.Prelude.{◌≡◌, List, Option, ℕ}
 use Rattle.serve_control.specs.Answer.{AnswersText, Service, bytes_of}
 use Rattle.serve_control.specs.Log.{TellsRequest}

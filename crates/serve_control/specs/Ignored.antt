@@ -1,4 +1,4 @@
--- Which control datagrams are ignored: neither answered nor obeyed (docs/COMMANDS.md, "serve").
+-- The control datagrams that are ignored: neither answered nor obeyed (docs/COMMANDS.md, "serve").
 use Rattle.std.specs.Prelude.{◌≡◌, ◌++◌, ◌⊎◌, List, codes, ℕ}
 use Rattle.ipv4_fields.specs.declared.endpoint.Endpoint.{Endpoint}
 use Rattle.serve_control.specs.declared.ignored.BoundAddresses.{BoundAddresses}

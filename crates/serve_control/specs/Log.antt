@@ -1,4 +1,4 @@
--- The log of control: what a line of it says, and which requests have one (docs/OPERATING.md, "The log").
+-- The log of control: the content of a line, and the requests that have one (docs/OPERATING.md, "The log").
 use Rattle.std.specs.Prelude.{◌≡◌, ◌++◌, ◌∷◌, ◌||◌, [], Bool, List, None, Option, Some, codes, decimal, false, nat_eq, take, true, ℕ}
 use Rattle.std.specs.List.{starts_with}
 use Rattle.command_explain.specs.Shown.{shown_text}
@@ -16,7 +16,7 @@ abbrev pub peer_text : Peer → List ℕ
 peer_text (Udp from) = endpoint_text from
 peer_text (Unix number) = codes "unix:" ++ decimal number
 
--- who asked, the reply, and the first bytes of the request as they are shown
+-- the sender, the reply, and the first bytes of the request as they are shown
 abbrev pub log_text : Peer → List ℕ → List ℕ → List ℕ
 log_text peer request reply =
     peer_text peer ++ (codes " " ++ (reply ++ (codes ": " ++ (shown_text (take LOGGED_BYTES request) ++ codes "\n"))))
@@ -29,7 +29,7 @@ pub record IsLogLine (line : List ℕ) : Type 0 where
   pub logged : is_logged reply ≡ true
   pub is_line : line ≡ log_text peer request reply
 
--- the lines that were told are those before, and this one; nothing may be known of them
+-- the lines that were logged are those before, and this one; or nothing is known of them
 abbrev pub TellsLine : Option (List (List ℕ)) → Option (List (List ℕ)) → List ℕ → Type 0
 TellsLine None after line = after ≡ None
 TellsLine (Some lines) after line = after ≡ Some (lines ++ line ∷ [])

@@ -13,7 +13,7 @@ use Rattle.member_counts.specs.declared.key.CountKey.{CountKey}
 use Rattle.member_group.specs.declared.refusal.Refusal.TheVariants.{NoGroup, NoMember}
 use Rattle.read_section.specs.Operator.{IsCurrent, OperatorValue}
 
--- whose counters are asked for: a group's key, or that and a member's number after a space
+-- the names in a request: a group's key, or a group's key and a member's number after a space
 abbrev pub id_text : Option ℕ → List ℕ
 id_text None = []
 id_text (Some id) = 32 ∷ decimal id
@@ -29,7 +29,7 @@ pub record IsAskable (asked : CountKey) : Type 0 where
   pub group : IsEndpoint asked.group
   pub member : IfSome asked.member (λ id. id < 2 ^ 32)
 
--- what is known of a table settles by a configuration
+-- a table that is known settles by a configuration
 abbrev pub SettlesBy : List Group → Option Table → Option Table → Type 0
 SettlesBy config None table' = Unit {0}
 SettlesBy config (Some table) None = ⊥
@@ -39,7 +39,7 @@ SettlesBy config (Some table) (Some table') = table' ≡ settled config table
 abbrev pub Settles : OperatorValue → Option Table → Option Table → Type 0
 Settles operator table table' = (config : List Group) × IsCurrent operator.view config × SettlesBy config table table'
 
--- what the current configuration and the table, if it is known, say of those who are asked for
+-- the reply from the current configuration and the table, if it is known, for the names in the request
 pub data IsCountsReply (operator : OperatorValue) (table : Option Table) (asked : CountKey) : List ℕ → Type 0 where
   no_group : (config : List Group) → IsCurrent operator.view config → has config (record { group = asked.group; member = None }) ≡ false →
       IsCountsReply operator table asked (refusal_text (Command NoGroup))

@@ -20,7 +20,7 @@ use serve_stream::{After, Answers, AnswersClients};
 use std::alloc::Global;
 use std::sync::{Mutex, Wait};
 
-/// What answers the requests of a peer.
+/// The operator, the tally, the counters and the log that answer the requests of a peer.
 /// The reason: docs/INTERNALS.md, "The desk has the lock of the counters".
 #[derive(Drop)]
 pub struct Desk<'a, N: TallyName, L: LogLines, R: Wait> {
@@ -43,7 +43,7 @@ fn after_of(answer: &ControlAnswer) -> After
     }
 }
 
-// Tells a request whose reply needs no memory of the log.
+// Logs a request whose reply needs no memory of the log.
 fn tell_short<L: LogLines>(log: &mut Log<L>, peer: Peer, request: &[u8], reply: &[u8])
     requires { length reply.now ≤ REPLY_LIMIT }
     ensures { TellsRequest log.old log.new peer request.now reply.now }
@@ -53,7 +53,7 @@ fn tell_short<L: LogLines>(log: &mut Log<L>, peer: Peer, request: &[u8], reply: 
     };
 }
 
-// Tells a request and its answer.
+// Logs a request and its answer.
 fn tell_answer<L: LogLines>(log: &mut Log<L>, peer: Peer, request: &[u8], answer: &ControlAnswer)
     ensures { TellsRequest log.old log.new peer request.now (bytes_of answer.now) }
 {
@@ -65,7 +65,7 @@ fn tell_answer<L: LogLines>(log: &mut Log<L>, peer: Peer, request: &[u8], answer
     }
 }
 
-/// Answers a control datagram, as `answer` does, and tells the log.
+/// Answers a control datagram, as `answer` does, and logs it.
 pub fn answer_from<N: TallyName, L: LogLines, M: MemberTotals>(
     alloc: Global,
     bound: &BoundAddresses,
@@ -95,7 +95,7 @@ pub fn answer_from<N: TallyName, L: LogLines, M: MemberTotals>(
     Some(answer)
 }
 
-// As `answer_request`, with a tally whose table its type tells.
+// As `answer_request`, with a tally whose table is part of its type.
 fn answer_named<N: TallyName, M: MemberTotals>(
     alloc: Global,
     request: &[u8],

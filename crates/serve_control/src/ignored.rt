@@ -1,4 +1,5 @@
-//! Which control datagrams are ignored (docs/COMMANDS.md, "serve"): those that look like replies, and those of the switch itself.
+//! The control datagrams that are ignored (docs/COMMANDS.md, "serve"): those that look like replies, and those of the
+//! switch itself.
 
 ghost use Rattle.std.specs.Prelude.{◌↔◌, IsTrue};
 ghost use Rattle.serve_control.specs.Ignored.{BeginsReplies, IsIgnored, IsOwn, LooksLikeReply};

@@ -59,7 +59,7 @@ impl ControlAnswer {
     }
 }
 
-// The reply where memory was refused.
+// The reply if an allocation is refused.
 const NO_MEMORY: &str = "failed E3";
 
 fn text_reply(text: &str) -> Reply
@@ -81,7 +81,7 @@ fn line_reply(alloc: Global, text: &[u8], operator: &mut Operator) -> Reply
     }
 }
 
-// Answers and does a control line. Then the counters settle by the configuration that is current.
+// Does a control line, and returns its reply. Then the counters settle by the configuration that is current.
 fn line_answer<M: MemberTotals>(
     alloc: Global,
     text: &[u8],

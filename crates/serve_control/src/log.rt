@@ -18,7 +18,7 @@ pub const LOGGED_BYTES: usize = 256;
 // No line whose reply is within `REPLY_LIMIT` needs more room.
 const LINE_ROOM: usize = 2048;
 
-/// Who sent a request.
+/// The sender of a request.
 #[derive(Clone, Copy, Debug, PartialEq, Eq)]
 pub enum Peer {
     /// The sender of a datagram.
@@ -27,9 +27,9 @@ pub enum Peer {
     Unix(u64),
 }
 
-/// Where the lines of a log go.
+/// The receiver of a log's lines.
 pub trait LogLines {
-    /// The lines that were told, if that is known. Of a terminal or a file nothing is known.
+    /// The lines that were logged, if they are known. Nothing is known about a terminal or a file.
     ghost lines: { Self → Option (List (List ℕ)) };
 
     /// Takes a line of the log, which ends with LF.
@@ -38,7 +38,7 @@ pub trait LogLines {
         ensures { TellsLine (lines self.old) (lines self.new) line.now };
 }
 
-/// No log: each line is passed over.
+/// No log: each line is dropped.
 #[derive(Clone, Copy, Drop)]
 pub struct NoLog;
 
@@ -101,7 +101,7 @@ fn front_of(request: &[u8]) -> &[u8]
     &request[..LOGGED_BYTES]
 }
 
-// Appends who sent a request, and the reply.
+// Appends the sender of a request, and the reply.
 fn push_front(line: &mut Vec<u8>, peer: Peer, reply: &[u8]) -> Result<(), AllocError>
     ensures appended { OnOk result (line.new.items ≡ line.old.items ++ (peer_text peer ++ (codes " " ++ reply.now))) }
     ensures at_most { OnOk result (vec_len line.new ≤ vec_len line.old + (129 + length reply.now)) }
@@ -148,8 +148,8 @@ impl<L: LogLines> Log<L> {
         })
     }
 
-    /// Tells a request and its reply in one line, if the request changed something or was not done. `Err` tells nothing; only a reply
-    /// that is longer than a control line's needs memory.
+    /// Logs a request and its reply in one line, if the request changed something or was not done. `Err` logs nothing;
+    /// only a reply that is longer than a control line's needs memory.
     pub fn tell_request(
         &mut self,
         peer: Peer,

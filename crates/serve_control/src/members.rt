@@ -50,7 +50,7 @@ impl MemberTotals for MemberTable {
     }
 }
 
-// Reads whose counters are asked for: a group's key, or that and a member's number.
+// Reads the names in a request for counters: a group's key, or a group's key and a member's number.
 fn read_names(names: &[u8]) -> Option<CountKey>
     ensures { MatchOption result
         ((asked : CountKey) → IsAskable asked → names.now ≢ names_text asked)

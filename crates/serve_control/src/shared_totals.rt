@@ -6,7 +6,7 @@ use member_counts::{GroupCounts, MemberCounts, MemberTable};
 use member_group::Config;
 use std::sync::{Mutex, Wait};
 
-/// Takes the table's lock for each reading. Of the table nothing is known, since the workers count meanwhile.
+/// Takes the table's lock for each reading. Nothing is known about the table, since the workers count meanwhile.
 #[derive(Drop)]
 pub struct SharedTotals<'a, R: Wait> {
     pub rt: &'a R,

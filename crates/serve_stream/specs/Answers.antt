@@ -13,12 +13,12 @@ abbrev pub request_of : Exchange → List ℕ
 request_of (replied request reply after) = request
 request_of (unanswered request) = request
 
--- the line that the client is sent
+-- the line that is sent to the client
 abbrev pub line_of : Exchange → List ℕ
 line_of (replied request reply after) = reply ++ 10 ∷ []
 line_of (unanswered request) = codes "failed E3" ++ 10 ∷ []
 
--- a call that is given this request, and room for replies with these bytes, appends the reply that it gives
+-- a call with this request, and with these bytes in the room for replies, appends its reply
 abbrev pub IsAnswered : {E : Type 0} → (Exchange → Type 0) → List ℕ → List ℕ → List ℕ → Result After E → Type 0
 IsAnswered Does request before later (Ok after) = (reply : List ℕ) × (later ≡ before ++ reply) × Does (replied request reply after)
 IsAnswered Does request before later (Err refused) = (later ≡ before) × Does (unanswered request)

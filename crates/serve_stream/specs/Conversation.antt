@@ -1,5 +1,5 @@
--- What contracts see of a conversation: how the bytes that the client sent, the requests in them, the replies and the bytes that the
--- client was sent go together.
+-- What contracts see of a conversation: the relation between the bytes from the client, the requests in them, the replies and the
+-- bytes to the client.
 use Rattle.std.specs.Prelude.{◌≡◌, ◌≤◌, ◌++◌, ◌∷◌, List, [], codes, length, map, ℕ}
 use Rattle.std.specs.List.{All}
 use Rattle.serve_stream.specs.declared.TheConstants.{WAITING_LIMIT}
@@ -20,14 +20,14 @@ GoOn [] = Unit {0}
 GoOn (last ∷ []) = Unit {0}
 GoOn (first ∷ next ∷ rest) = GoesOnAfter first × GoOn (next ∷ rest)
 
--- The client's bytes are the requests that were answered, each with its LF, and what is left. Their replies, each with its LF, and then
--- the last words of the conversation itself are the bytes that the stream took, and then those that wait.
+-- The client's bytes are the requests that were answered, each with its LF, and the bytes that are left. Their replies, each with
+-- its LF, and then the last words of the conversation itself are the bytes that the stream took, and then those that wait.
 pub record IsConversation (events : List Event) (exchanges : List Exchange) (left waiting words : List ℕ) : Type 0 where
   pub cut : IsCut (given events) (map request_of exchanges) left
   pub go_on : GoOn exchanges
   pub written : taken events ++ waiting ≡ said exchanges ++ words
 
--- what the client is told if a request is not held
+-- the client's reply if a request is not held
 abbrev pub too_long_words : List ℕ
 too_long_words = codes "refused C2" ++ 10 ∷ []
 
@@ -36,9 +36,9 @@ no_memory_words = codes "failed E3" ++ 10 ∷ []
 
 -- why no more requests are answered, and the last words
 pub data EndsBy (events : List Event) (exchanges : List Exchange) (left : List ℕ) : List ℕ → Type 0 where
-  -- the client has closed its side; what is left is no whole request
+  -- the client has closed its side; the bytes that are left are no whole request
   by_client : Happened ended events → All GoesOnAfter exchanges → IsPart left → EndsBy events exchanges left []
-  -- the last line was meant to begin a block, whose lines may be what follows
+  -- the last line was meant to begin a block, whose lines may follow
   by_bad_head : (earlier : List Exchange) (last : Exchange) → exchanges ≡ earlier ++ last ∷ [] → All GoesOnAfter earlier → IsBadHead (request_of last) →
       EndsBy events exchanges left []
   by_length : All GoesOnAfter exchanges → BeginsOverlong left → EndsBy events exchanges left too_long_words

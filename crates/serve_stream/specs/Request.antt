@@ -1,4 +1,4 @@
--- What a client asks for: requests, cut from the bytes of its stream at LFs (docs/COMMANDS.md, "Control lines").
+-- The requests of a client, cut from the bytes of its stream at LFs (docs/COMMANDS.md, "Control lines").
 use Rattle.std.specs.Prelude.{◌≡◌, ◌<◌, ◌≤◌, ◌++◌, ◌∷◌, ◌⊎◌, List, [], codes, length, ℕ}
 use Rattle.std.specs.List.{All, flat_map}
 use Rattle.ipv4_fields.specs.Cut.{Lacks}
@@ -8,8 +8,8 @@ use Rattle.control_line.specs.Block.{HasHead, IsBlock, after_line_feeds}
 
 -- ---- requests
 
--- what has one reply, without the LF that ends it: a line that does not begin a block, or a block with as many lines as its first line
--- says
+-- a text that has one reply, without the LF that ends it: a line that does not begin a block, or a block with as many lines as
+-- its first line says
 pub data IsRequest (text : List ℕ) : Type 0 where
   is_line : Lacks 10 text → length text ≤ LINE_LIMIT → ((head : Head) (rest : List ℕ) → ¬ HasHead text head rest) → IsRequest text
   is_block : (head : Head) (lines : List (List ℕ)) → IsBlock text head lines → length (after_line_feeds lines) ≤ BLOCK_LIMIT → IsRequest text
@@ -49,7 +49,7 @@ pub data IsOverlong (text : List ℕ) : Type 0 where
 abbrev pub BeginsOverlong : List ℕ → Type 0
 BeginsOverlong bytes = (front rest : List ℕ) × (bytes ≡ front ++ rest) × IsOverlong front
 
--- neither has a whole request at its front, whatever follows what is too long
+-- neither has a whole request at its front, whatever follows an overlong beginning
 abbrev pub HaveNoRequest : Type 0
 HaveNoRequest = (bytes : List ℕ) → IsPart bytes ⊎ BeginsOverlong bytes → HasNoRequest bytes
 

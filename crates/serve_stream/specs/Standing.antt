@@ -16,10 +16,10 @@ use Rattle.serve_stream.specs.body.Held.{Holds}
 abbrev pub waiting_of : Conversation → List ℕ
 waiting_of conversation = conversation.replies ++ conversation.last.now
 
--- Where a conversation is, if this is all that happened on its stream, and these are all the requests that it had answered. `left` are
--- the client's bytes after them.
+-- The stage of a conversation, if this is all that happened on its stream, and these are all the requests that it had answered.
+-- `left` are the client's bytes after them.
 pub data IsAt (conversation : Conversation) (events : List Event) (exchanges : List Exchange) : Type 0 where
-  -- requests are answered: of the bytes that are left the first are held, and the others unread
+  -- requests are answered: the first bytes that are left are held, and the others unread
   going : conversation.stage ≡ Open → Holds conversation.held → All GoesOnAfter exchanges →
       IsConversation events exchanges (conversation.held.bytes.items ++ conversation.unread) (waiting_of conversation) [] → IsAt conversation events exchanges
   -- no more are, but replies may wait
@@ -31,7 +31,7 @@ pub data IsAt (conversation : Conversation) (events : List Event) (exchanges : L
   over : (left words : List ℕ) → conversation.stage ≡ Over → IsConversation events exchanges left (waiting_of conversation) words →
       IsClosed events exchanges left (waiting_of conversation) words → IsAt conversation events exchanges
 
--- wherever the conversation was, these events happened next on its stream, and these requests were answered next
+-- at whatever stage the conversation was, these events happened next on its stream, and these requests were answered next
 abbrev pub Moves : Conversation → Conversation → List Event → List Exchange → Type 0
 Moves before later events exchanges =
     (past : List Event) (answered : List Exchange) → IsAt before past answered → IsAt later (past ++ events) (answered ++ exchanges)
@@ -48,7 +48,7 @@ SaysMore conversation events = (waiting_of conversation ≢ []) × (¬ Happened 
 abbrev pub IsHindered : List Event → Type 0
 IsHindered events = Happened took_none events ⊎ (Happened interrupted events ⊎ Happened failed events)
 
--- What a turn comes to. A conversation waits if the stream had nothing to give, and takes none of what waits.
+-- The result of a turn. A conversation waits if the stream had nothing to give, and takes none of the bytes that wait.
 abbrev pub ComesTo : Turn → Conversation → List Event → Type 0
 ComesTo Went conversation events =
     (conversation.stage ≢ Over) × (length (waiting_of conversation) < WAITING_LIMIT) × (HearsMore conversation events ⊎ SaysMore conversation events)
@@ -59,7 +59,7 @@ ComesTo Waits conversation events =
 ComesTo Closed conversation events = conversation.stage ≡ Over
 ComesTo Stop conversation events = (conversation.stage ≡ Over) × (waiting_of conversation ≢ [] → IsHindered events)
 
--- what a turn does, with at most so many requests
+-- the effect of a turn, with at most this many requests
 pub record IsTurn {S : Type 0} (Does : S → S → Exchange → Type 0) (budget : ℕ) (log log' : Option (List Event)) (state state' : S) (before later : Conversation) (turn : Turn) : Type 0 where
   pub events : List Event
   pub exchanges : List Exchange
@@ -68,7 +68,7 @@ pub record IsTurn {S : Type 0} (Does : S → S → Exchange → Type 0) (budget 
   pub few : length exchanges ≤ budget
   pub moves : Moves before later events exchanges
   pub comes_to : ComesTo turn later events
-  -- it reads once and writes once at most, but for what the stream takes after a stop
+  -- it reads once and writes once at most, except for the writes after a stop
   pub brief : turn ≢ Stop → length events ≤ 2
   -- between turns no conversation is `Stopping`
   pub stop : before.stage ≢ Stopping → (later.stage ≢ Stopping) × ((turn ≡ Stop) ↔ LastStops exchanges)

@@ -17,7 +17,7 @@ pub data Event : Type 0 where
   ended : Event
   failed : Event
 
--- what a stream tells is what it told before, and then these; a stream may tell nothing
+-- the log of a stream is its log before, and then these events; or nothing is known of the stream
 abbrev pub Logs : Option (List Event) → Option (List Event) → List Event → Type 0
 Logs None later events = Unit {0}
 Logs (Some log) None events = ⊥
@@ -33,7 +33,7 @@ abbrev pub IsWithinSent : ℕ → Sent → Type 0
 IsWithinSent bytes (sent.Bytes count) = (count ≤ bytes) × (0 < bytes → 0 < count)
 IsWithinSent bytes other = Unit {0}
 
--- what happened in a read that ended so, and whose room then has these bytes
+-- the events of a read that ended so, and whose room then has these bytes
 abbrev pub events_of_read : Arrived → List ℕ → List Event
 events_of_read (arrived.Bytes count) room = gave (take count room) ∷ []
 events_of_read arrived.NotYet room = gave_none ∷ []
@@ -41,7 +41,7 @@ events_of_read arrived.Ended room = ended ∷ []
 events_of_read arrived.Failed room = failed ∷ []
 events_of_read arrived.Interrupted room = []
 
--- what happened in a write of these bytes that ended so
+-- the events of a write of these bytes that ended so
 abbrev pub events_of_write : Sent → List ℕ → List Event
 events_of_write (sent.Bytes count) bytes = took (take count bytes) ∷ []
 events_of_write sent.NotYet bytes = took_none ∷ []

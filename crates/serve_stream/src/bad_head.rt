@@ -7,7 +7,7 @@ ghost use Rattle.serve_stream.specs.Request.{IsFirstWord, IsStartWord, NamesBloc
 use control_line::is_word;
 use ipv4_fields::split_at;
 
-// The first word of a line.
+// Returns the first word of a line.
 fn first_word(text: &[u8]) -> &[u8]
     ensures { IsFirstWord text.now result.now }
 {
@@ -23,7 +23,7 @@ fn is_start_word(word: &[u8]) -> bool
     is_word(word, "all") || is_word(word, "anew")
 }
 
-// What follows `at W `, if a line begins so.
+// Returns the text after `at W `, if a line begins so.
 fn after_version(text: &[u8]) -> Option<&[u8]>
     ensures { MatchOption result
         ((version rest : List ℕ) → Lacks 32 version → text.now ≢ codes "at" ++ 32 ∷ (version ++ 32 ∷ rest))
@@ -37,7 +37,7 @@ fn after_version(text: &[u8]) -> Option<&[u8]>
     Some(rest)
 }
 
-/// Tells whether a line begins as a block does.
+/// Tests whether a line begins as a block does.
 pub(crate) fn names_block(line: &[u8]) -> bool
     ensures { IsTrue result ↔ NamesBlock line.now }
 {

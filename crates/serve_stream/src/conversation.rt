@@ -20,7 +20,7 @@ use std::alloc::Global;
 // The reply to a request that is too long.
 const TOO_LONG: &[u8] = b"refused C2\n";
 
-/// What a turn of a conversation came to.
+/// The result of a turn of a conversation.
 #[derive(Clone, Copy, Debug, PartialEq, Eq)]
 pub enum Turn {
     /// More may be done at once.
@@ -33,7 +33,7 @@ pub enum Turn {
     Stop,
 }
 
-/// How far a conversation is.
+/// The stage of a conversation.
 #[derive(Clone, Copy, Debug, PartialEq, Eq)]
 pub(crate) enum Stage {
     /// Requests are answered.
@@ -46,20 +46,20 @@ pub(crate) enum Stage {
     Over,
 }
 
-/// A conversation: what has come of the next request, and the replies that the client has not taken.
+/// A conversation: the bytes of the next request so far, and the replies that the client has not taken.
 #[derive(Drop)]
 pub struct Conversation {
     unread: Unread,
     held: Held,
     replies: Replies,
-    // What comes after the replies, if no more requests are answered.
+    // The bytes after the replies, if no more requests are answered.
     last: &'static [u8],
     stage: Stage,
-    // Why the request that came last is not held, until that is told.
+    // Why the request that came last is not held, until that is noted.
     unheld: Option<HoldFault>,
 }
 
-// How far a conversation is after a request whose last line ended so.
+// Returns the stage after a request whose last line ended so.
 fn stage_after(end: LineEnd, after: Option<After>) -> Stage
     ensures { result ≡ stage_of end after }
 {
@@ -93,7 +93,7 @@ impl Conversation {
         self.stage == other
     }
 
-    // Reads once, if all that was read before is taken. Tells whether more may be taken or read at once.
+    // Reads once, if all that was read before is taken. Returns whether more may be taken or read at once.
     fn read<S: Stream>(&mut self, stream: &mut S) -> bool
         ensures { IsRead (S.log stream.old) (S.log stream.new) self.old self.new result }
     {
@@ -148,7 +148,8 @@ impl Conversation {
         self.stage = Stage::Closing;
     }
 
-    // Takes bytes that were read up to the end of a line, and answers the request that they end. Tells whether they end one.
+    // Takes bytes that were read up to the end of a line, and answers the request that they end. Returns whether they
+    // end one.
     fn step<A: Answers>(&mut self, answers: &mut A) -> bool
         requires stage { self.old.stage ≡ stage.Open }
         requires last { self.old.last.now ≡ [] }
@@ -197,7 +198,7 @@ impl Conversation {
         }
     }
 
-    // The bytes that are written next.
+    // Returns the bytes that are written next.
     fn next_bytes(&self) -> &[u8]
         ensures { result.now ≡ next_of self.now }
     {
@@ -222,6 +223,7 @@ impl Conversation {
         }
     }
 
+    // The reason: docs/DECISIONS.md, "Replies that wait are counted after the write".
     fn waits_too_long(&self) -> bool
         ensures { IsTrue result ↔ (WAITING_LIMIT ≤ length (waiting_of self.now)) }
     {
@@ -235,7 +237,7 @@ impl Conversation {
         self.next_bytes().is_empty()
     }
 
-    // Writes once, if bytes wait. Tells whether more wait, and may be taken at once.
+    // Writes once, if bytes wait. Returns whether more wait, and may be taken at once.
     fn write<S: Stream>(&mut self, stream: &mut S) -> bool
         ensures { IsWritten (S.log stream.old) (S.log stream.new) self.old self.new result }
     {
@@ -283,7 +285,7 @@ impl Conversation {
         self.stage = Stage::Over;
     }
 
-    // Ends if all is said and taken, or if too much waits.
+    // Ends if all replies are written after the last request, or if too much waits.
     fn close_if_due(&mut self)
         ensures moves { Moves self.old self.new [] [] }
         ensures few { self.new.stage ≢ stage.Over → length (waiting_of self.new) < WAITING_LIMIT }
@@ -307,8 +309,8 @@ impl Conversation {
         more && self.is(Stage::Open) && self.last.is_empty()
     }
 
-    /// Goes on: reads at most once, answers at most `budget` requests, and writes at most once, but all that the stream takes at once
-    /// after `stop`.
+    /// Goes on: reads at most once, answers at most `budget` requests, and writes at most once. After `stop` it writes
+    /// all that the stream takes at once.
     pub fn turn<S: Stream, A: Answers>(
         &mut self,
         stream: &mut S,
@@ -340,8 +342,8 @@ impl Conversation {
         Turn::Waits
     }
 
-    /// If the request that came last is not held, and that was not noted: what was held of it, and what the client is told, without the
-    /// LF.
+    /// Returns the held part of the request that came last, and the client's reply without the LF, if that request is
+    /// not held and that was not noted.
     pub fn unheld(&self) -> Option<(&[u8], &[u8])>
         ensures { IsUnheld self.now (option_map (λ told. (told.0.now, told.1.now)) result) }
     {
@@ -352,14 +354,14 @@ impl Conversation {
         Some((&self.held.bytes, &words[..words.len() - 1]))
     }
 
-    /// Says that it was noted.
+    /// Marks the request that is not held as noted.
     pub fn note_unheld(&mut self)
         ensures { self.new ≡ record self.old { unheld = None } }
     {
         self.unheld = None;
     }
 
-    /// Tells whether replies wait that the stream has not taken.
+    /// Tests whether replies wait that the stream has not taken.
     pub fn has_replies(&self) -> bool
         ensures { IsTrue result ↔ (waiting_of self.now ≢ []) }
     {

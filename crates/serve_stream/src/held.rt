@@ -1,4 +1,4 @@
-//! The request of a client that comes: a line, or a block with its lines.
+//! The incoming request of a client: a line, or a block with its lines.
 
 ghost use Rattle.std.specs.Prelude.{◌≡◌, ◌+◌, ◌<◌, ◌≤◌, ◌++◌, ◌∷◌, IfOk, List, MatchOption, MatchResult, [], length, ℕ};
 ghost use Rattle.ipv4_fields.specs.Cut.{IsSplitAt, Lacks};
@@ -20,7 +20,7 @@ pub(crate) enum HoldFault {
     OutOfMemory,
 }
 
-/// What the end of a line comes to.
+/// The effect of the end of a line.
 #[derive(Clone, Copy, Debug, PartialEq, Eq)]
 pub(crate) enum LineEnd {
     /// The request goes on.
@@ -31,17 +31,17 @@ pub(crate) enum LineEnd {
     BadHead,
 }
 
-/// What has come of a request.
+/// The bytes of a request so far.
 #[derive(Drop)]
 pub(crate) struct Held {
     pub(crate) bytes: Vec<u8>,
-    // How many more bytes the request may have.
+    // The number of bytes that the request may still have.
     room: usize,
-    // How many lines of a block have not ended. 0 if there is no block.
+    // The number of lines of a block that have not ended. 0 if there is no block.
     due: u32,
 }
 
-// Cuts a text at its first LF.
+// Splits a text at its first LF.
 fn split_line(text: &[u8]) -> Option<(&[u8], &[u8])>
     ensures { MatchOption result (Lacks 10 text.now) (λ parts. IsSplitAt 10 text.now parts.0.now parts.1.now) }
 {
@@ -49,7 +49,7 @@ fn split_line(text: &[u8]) -> Option<(&[u8], &[u8])>
     Some((&text[..end], &text[end + 1..]))
 }
 
-// What the end of a line comes to, if the line is no first line of a block.
+// Returns the effect of the end of a line that is not the first line of a block.
 fn end_without_head(line: &[u8]) -> LineEnd
     ensures { IsEndWithoutHead line.now result }
 {
@@ -133,7 +133,8 @@ impl Held {
         Ok(LineEnd::More)
     }
 
-    /// Takes bytes up to the end of a line, or all if no line ends in them. Tells how many.
+    /// Takes bytes up to the end of a line, or all if no line ends in them. Returns their number, and the effect of the
+    /// line's end.
     pub(crate) fn take(&mut self, bytes: &[u8]) -> Result<(usize, LineEnd), HoldFault>
         ensures within { IfOk result (λ taken. taken.0 ≤ length bytes.now) }
         ensures some { IfOk result (λ taken. 0 < length bytes.now → 0 < taken.0) }

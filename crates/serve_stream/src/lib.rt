@@ -34,7 +34,7 @@ pub use answers::{After, Answers, AnswersClients};
 pub use conversation::{Conversation, Turn};
 pub use stream::{Arrived, Sent, Stream};
 
-/// The connection is closed when so many bytes of replies wait, or more.
+/// The connection is closed when this many bytes of replies wait, or more.
 pub const WAITING_LIMIT: usize = 65_536;
 
 /// Law: the limit, as a number. It runs nothing.

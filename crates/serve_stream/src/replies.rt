@@ -8,25 +8,25 @@ use crate::answers::{After, Answers};
 use std::alloc::Global;
 use std::marker::Model;
 
-// So many bytes that were written are kept before they are given up.
+// The number of written bytes that are kept before they are dropped.
 const KEPT: usize = 65_536;
 
-/// The reply where memory was refused.
+/// The reply if an allocation was refused.
 pub(crate) const NO_MEMORY: &[u8] = b"failed E3\n";
 
-/// Replies, each with its LF, as far as they are not written.
+/// Replies that are not written yet, each with its LF.
 #[derive(Drop)]
 pub(crate) struct Replies {
     bytes: Vec<u8>,
     written: usize,
 }
 
-/// How a request was answered.
+/// The result of a request.
 #[derive(Clone, Copy)]
 pub(crate) struct Answered {
-    /// What is to be done, if it was answered.
+    /// The next action, if the request was answered.
     pub(crate) after: Option<After>,
-    /// What of the reply could not be kept among the others.
+    /// The part of the reply that could not be kept among the others.
     pub(crate) last: &'static [u8],
 }
 

@@ -3,10 +3,10 @@
 ghost use Rattle.std.specs.Prelude.{List, Option, length};
 ghost use Rattle.serve_stream.specs.Stream.{Event, IsWithin, IsWithinSent, Logs, events_of_read, events_of_write};
 
-/// What a read of a stream came to.
+/// The result of a read of a stream.
 #[derive(Clone, Copy, Debug, PartialEq, Eq)]
 pub enum Arrived {
-    /// So many bytes came.
+    /// This many bytes came.
     Bytes(usize),
     /// None are there yet: the read would block.
     NotYet,
@@ -18,10 +18,10 @@ pub enum Arrived {
     Failed,
 }
 
-/// What a write to a stream came to.
+/// The result of a write to a stream.
 #[derive(Clone, Copy, Debug, PartialEq, Eq)]
 pub enum Sent {
-    /// The stream took so many of the bytes, from the first one on.
+    /// The stream took this many of the bytes, from the first one on.
     Bytes(usize),
     /// The stream takes none yet: the write would block.
     NotYet,
@@ -34,7 +34,7 @@ pub enum Sent {
 /// A stream of bytes to a client and from it. No call of it waits.
 /// The reason: docs/INTERNALS.md, "Relations for requests, logs for streams".
 pub trait Stream {
-    /// What happened on the stream, if it tells that. A socket tells nothing.
+    /// The events on the stream, if they are known. For a socket they are not known.
     ghost log: { Self → Option (List Event) };
 
     /// Reads bytes into the front of `room`.

@@ -1,4 +1,4 @@
-//! The bytes that one read of a stream brought, as far as they are not taken.
+//! The bytes of one read of a stream that are not taken yet.
 
 ghost use Rattle.std.specs.Prelude.{◌≡◌, ◌≤◌, IfOk, List, [], drop, length, ℕ};
 ghost use Rattle.serve_stream.specs.Stream.{Logs, events_of_read, given};
@@ -8,7 +8,7 @@ use control_line::OutOfMemory;
 use std::alloc::Global;
 use std::marker::Model;
 
-/// How many bytes one read brings at most.
+/// The most bytes of one read.
 const READ_ROOM: usize = 16_384;
 
 /// Bytes that came and are not taken yet.
@@ -54,7 +54,7 @@ impl Unread {
         self.next += count;
     }
 
-    /// Reads once. What was here is forgotten.
+    /// Reads once. The bytes that were here are dropped.
     pub(crate) fn read<S: Stream>(&mut self, stream: &mut S) -> Arrived
         ensures { (room : List ℕ) × Logs (S.log stream.old) (S.log stream.new) (events_of_read result room) × (self.new ≡ given (events_of_read result room)) }
     {

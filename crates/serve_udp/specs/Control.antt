@@ -1,4 +1,4 @@
--- What contracts see of control over datagrams: what came, and what was sent back (docs/COMMANDS.md, "serve").
+-- What contracts see of control over datagrams: the datagrams that came, and the replies (docs/COMMANDS.md, "serve").
 use Rattle.std.specs.Prelude.{◌≡◌, ◌+◌, ◌++◌, ◌∷◌, ◌≤◌, Bool, List, None, Option, Some, [], false, take, true, ℕ}
 use Rattle.dispatch.specs.Device.{Takes}
 use Rattle.ipv4_fields.specs.declared.endpoint.Endpoint.{Endpoint}
@@ -19,7 +19,7 @@ pub data ControlEvent : Type 0 where
   receive_failed : ControlEvent
   replied : (to : Endpoint) (bytes : List ℕ) → ControlEvent
 
--- what happened in a receive that found this, and whose buffer then has these bytes
+-- the events of a receive that found this, and whose buffer then has these bytes
 abbrev pub came_by : Asked → List ℕ → List ControlEvent
 came_by (Datagram from len) buffer = came from (take len buffer) ∷ []
 came_by Nothing buffer = none_came ∷ []
@@ -31,7 +31,8 @@ IsWithin room (Datagram from len) = len ≤ room
 IsWithin room Nothing = Unit {0}
 IsWithin room Failed = Unit {0}
 
--- one reply is sent to who asked, and none to who is ignored; the line of the totals is not sent if memory for it is refused
+-- one reply is sent to a sender that is not ignored, and none to one that is; the line of the totals is not sent if memory for it
+-- is refused
 pub data IsRepliedTo (from : Endpoint) : Option ControlAnswer → List ControlEvent → Type 0 where
   ignored : IsRepliedTo from None []
   answered : (answer : ControlAnswer) → IsRepliedTo from (Some answer) (replied from (bytes_of answer) ∷ [])
@@ -44,8 +45,9 @@ is_stop (Some Stop) = true
 is_stop (Some (TotalsAnswer totals)) = false
 is_stop (Some (Line reply)) = false
 
--- So many receives were made, one after the other. A receive that failed is passed over. Each datagram that came was answered, and had its
--- reply, before the next receive, and no receive was made after a datagram that asked to stop. The truth value says whether the last one did.
+-- This many receives were made, one after the other. A receive that failed is ignored. Each datagram that came was answered, and
+-- had its reply, before the next receive, and no receive was made after a datagram that asked to stop. The truth value says
+-- whether the last one did.
 pub data AnswersInTurn (bound : BoundAddresses) (before : Service) : ℕ → List ControlEvent → Bool → Service → Type 0 where
   none : (after : Service) → after ≡ before → AnswersInTurn bound before 0 [] false after
   one_more : (count : ℕ) (events replies : List ControlEvent) (mid after : Service) (from : Endpoint) (text : List ℕ) (answer : Option ControlAnswer)

@@ -1,4 +1,4 @@
--- What `serve` writes, and which jobs its totals count (docs/COMMANDS.md, "serve").
+-- The output of `serve`, and the jobs that its totals count (docs/COMMANDS.md, "serve").
 use Rattle.std.specs.Prelude.{◌≡◌, ◌≢◌, ◌++◌, ◌⊎◌, List, None, Option, [], codes, length, map, reverse, ℕ}
 use Rattle.std.specs.Io.KnownBytes.{Appends}
 use Rattle.std.specs.List.{All}
@@ -17,23 +17,23 @@ use Rattle.dispatch.specs.Totals.{WritesTotals}
 use Rattle.serve_udp.specs.declared.jobs.TheConstants.{LIMIT}
 use Rattle.serve_udp.specs.declared.sockets.TheConstants.{LONGEST_DATAGRAM}
 
--- the room for a datagram, and how many a batch judges at most
+-- the room for a datagram, and the most datagrams that a batch judges
 abbrev pub HasRoom : ℕ → ℕ → Type 0
 HasRoom room limit = (room ≡ LONGEST_DATAGRAM) × (limit ≡ LIMIT)
 
--- an outbox that has not failed yet, and tells nothing of its sends
+-- an outbox that has not failed yet, and shows nothing of its sends
 abbrev pub HasSilentOutbox : Parts → Type 0
 HasSilentOutbox start = start.outbox ≡ record { failures = 0; taken = None }
 
--- devices that have not failed yet, and tell nothing of their datagrams
+-- devices that have not failed yet, and show nothing of their datagrams
 abbrev pub HasSilentDevices : Parts → Type 0
 HasSilentDevices start = (start.source ≡ record { failures = 0; coming = None }) × HasSilentOutbox start
 
--- what the jobs of so many workers start with
+-- the starts of the jobs of this many workers
 abbrev pub AreServiceStarts : ℕ → List Parts → Type 0
 AreServiceStarts workers starts = (length starts ≡ workers) × All HasSilentDevices starts
 
--- what the jobs with these sources start with; the first job has the last source
+-- the starts of the jobs with these sources; the first job has the last source
 pub record AreStartsOf (sources : List WorkerSourceValue) (starts : List Parts) : Type 0 where
   pub their_sources : map (λ (start : Parts). start.source) starts ≡ map source_of (reverse sources)
   pub silent_outboxes : All HasSilentOutbox starts
@@ -42,7 +42,7 @@ pub record AreStartsOf (sources : List WorkerSourceValue) (starts : List Parts) 
 abbrev pub IsServeFailure : Failure → Type 0
 IsServeFailure failure = (failure ≢ ReadFailed) × (failure ≢ NoAnswer) × (failure ≢ RulesChanged)
 
--- the line that tells that the service is ready
+-- the line that says that the service is ready
 abbrev pub ready_front : Endpoint → List ℕ
 ready_front front = codes "ready " ++ endpoint_text front ++ codes " "
 
@@ -56,7 +56,8 @@ WritesReady front control before after = Appends before after (ready_text front 
 abbrev pub WritesReadyOrNothing : Option (List ℕ) → Option (List ℕ) → Type 0
 WritesReadyOrNothing before after = (after ≡ before) ⊎ ((front : Endpoint) × (control : ControlAddress) × WritesReady front control before after)
 
--- that line, then the line of what jobs that started so counted in all, and nothing else; version 0 of their table is this configuration
+-- that line, then the line of the totals of jobs that started so, and nothing else; version 0 of their table is this
+-- configuration
 pub record WritesCounted (control : ControlAddress) (opening : List Group) (AreStarts : List Parts → Type 0) (before after : Option (List ℕ)) : Type 0 where
   pub front : Endpoint
   pub totals : Totals
@@ -65,7 +66,7 @@ pub record WritesCounted (control : ControlAddress) (opening : List Group) (AreS
   pub is_counted : IsCounted opening LONGEST_DATAGRAM LIMIT AreStarts totals
   pub totals_line : WritesTotals totals between after
 
--- of the jobs of so many workers
+-- for the jobs of this many workers
 abbrev pub WritesServedAt : ControlAddress → List Group → ℕ → Option (List ℕ) → Option (List ℕ) → Type 0
 WritesServedAt control opening workers before after = WritesCounted control opening (AreServiceStarts workers) before after
 

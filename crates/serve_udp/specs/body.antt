@@ -1,3 +1,3 @@
--- Models of the code: what the contracts of private functions cite. No public clause stands on them.
+-- Models of the code: what the contracts of private functions cite. No public clause depends on them.
 pub mod Jobs
 pub mod Turns

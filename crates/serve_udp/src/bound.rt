@@ -76,7 +76,8 @@ fn bind_outlets<N: Net>(
     Ok(outlets)
 }
 
-/// Binds the front, then control over UDP, then a socket for each worker to send by. A port 0 is the system's to pick.
+/// Binds the front, then control over UDP, then a socket for each worker to send by. If a port is 0, the system picks
+/// one.
 pub fn bind_udp<N: Net>(
     net: &N,
     alloc: Global,

@@ -12,13 +12,13 @@ use read_section::Operator;
 use serve_control::{BoundAddresses, ControlAnswer, Log, LogLines, MemberTotals, answer_from};
 use std::alloc::Global;
 
-/// How many datagrams, or turns of clients, control has before the front has its turn.
+/// The number of datagrams, or turns of clients, that control has before the front has its turn.
 pub const CONTROL_TURN: usize = 4;
 
-/// What a receive of control found.
+/// The result of a receive of control.
 #[derive(Clone, Copy)]
 pub enum Asked {
-    /// A datagram of so many bytes.
+    /// A datagram of `len` bytes.
     Datagram { from: Endpoint, len: usize },
     /// No datagram has come.
     Nothing,
@@ -26,7 +26,7 @@ pub enum Asked {
     Failed,
 }
 
-/// Where control datagrams come from, and where their replies go. Contracts see both in their order, if they are known.
+/// A wire that brings control datagrams and takes their replies. Contracts see both in their order, if they are known.
 pub trait ControlWire {
     ghost log: { Self → Option (List ControlEvent) };
 
@@ -35,12 +35,12 @@ pub trait ControlWire {
         ensures within { IsWithin (length buf.new) result }
         ensures logged { Takes (log self.old) (log self.new) (came_by result buf.new) };
 
-    /// Sends a reply as one datagram. A failure is passed over.
+    /// Sends a reply as one datagram. A failure is ignored.
     fn reply(&mut self, to: Endpoint, bytes: &[u8])
         ensures logged { Takes (log self.old) (log self.new) (replied to bytes.now ∷ []) };
 }
 
-/// How a turn of control ended, or went on.
+/// The result of a turn of control, or of a part of it.
 #[derive(Clone, Copy)]
 pub enum Next {
     /// There may be more datagrams.
@@ -148,9 +148,10 @@ fn answer_next<C: ControlWire, N: TallyName, L: LogLines, M: MemberTotals>(
     }
 }
 
-/// Answers the next datagrams by one datagram each to their senders, but for those that are ignored.
+/// Answers the next datagrams by one datagram each to their senders, except those that are ignored.
 ///
-/// A turn ends if no datagram has come, at a request to stop, and after `CONTROL_TURN` receives. A receive that fails is passed over.
+/// A turn ends if no datagram has come, at a request to stop, and after `CONTROL_TURN` receives. A receive that fails
+/// is ignored.
 pub fn answer_datagrams<C: ControlWire, N: TallyName, L: LogLines, M: MemberTotals>(
     alloc: Global,
     wire: &mut C,

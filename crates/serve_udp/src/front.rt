@@ -22,12 +22,13 @@ const INT_SIZE: u32 = 4;
 
 const ADDRESS_SIZE: u32 = 16;
 
-/// Where the front is, and how it receives.
+/// The address of the front, and the way in which it receives.
 #[derive(Clone, Copy)]
 pub struct FrontRequest {
     pub address: Endpoint,
     pub way: ReceiveWay,
-    /// How large a receive buffer each of its sockets asks for (SO_RCVBUF of socket(7)). The system may give less.
+    /// The size of the receive buffer that each of its sockets asks for (SO_RCVBUF of socket(7)). The system may give
+    /// less.
     pub buffer: Option<ReceiveBuffer>,
 }
 
@@ -101,6 +102,7 @@ fn bind_another(at: Endpoint, buffer: Option<ReceiveBuffer>) -> io::Result<net::
 }
 
 // Binds the first socket. No other one shares the port, and so it is an error if the port is in use.
+// The reason: docs/DECISIONS.md, "The first socket of the front is bound alone".
 fn bind_first<N: Net>(net: &N, front: FrontRequest) -> io::Result<(net::UdpSocket, Endpoint)> {
     let socket = net.bind_udp(front.address.socket_address())?;
     ask_for_buffer(&socket, front.buffer)?;
@@ -142,13 +144,14 @@ fn bind_others(
     Ok(fronts)
 }
 
-// Makes the receives of a socket such that they do not wait.
+// Makes the receives of a socket not wait.
 fn without_waiting(socket: net::UdpSocket) -> io::Result<UdpSocket> {
     socket.set_nonblocking(true)?;
     Ok(UdpSocket::from_std(socket))
 }
 
-/// Binds the sockets at the front, and tells the address that they are bound to. A port 0 is the system's to pick.
+/// Binds the sockets at the front, and returns the address that they are bound to. If the port is 0, the system picks
+/// one.
 pub(crate) fn bind_front<N: Net>(
     net: &N,
     alloc: Global,

@@ -1,4 +1,4 @@
-//! How the datagrams of the front come to the workers (docs/COMMANDS.md, "How it receives").
+//! The ways from the front to the workers (docs/COMMANDS.md, "How it receives").
 
 ghost use Rattle.std.specs.Prelude.{◌≡◌, ◌≤◌, ◌++◌, ◌∷◌, IfErr, IfOk, None, OnOk, [], length};
 ghost use Rattle.serve_devices.specs.Devices.{new_source};
@@ -17,7 +17,7 @@ use std::net::UdpSocket;
 use std::sync::Wait;
 use std::sync::atomic::AtomicBool;
 
-/// The socket at the front, if the caller's thread receives, and the queues by which it hands on what comes.
+/// The socket at the front, if the caller's thread receives, and the queues by which it hands datagrams on.
 #[derive(Drop)]
 pub struct QueuedFront {
     pub socket: net::UdpSocket,
@@ -26,7 +26,7 @@ pub struct QueuedFront {
     pub is_ready: bool,
 }
 
-/// Who receives at the front: the caller's thread, if there is a front for it, and otherwise the workers.
+/// The receivers at the front: the caller's thread, if there is a front for it, and otherwise the workers.
 ///
 /// When it is dropped no more datagrams come to the workers, so that they end.
 #[derive(Drop)]
@@ -35,7 +35,7 @@ pub struct Receiving<'a> {
     pub stop: StopReceiving<'a>,
 }
 
-/// The sources of all workers, and who receives.
+/// The sources of all workers, and the receivers.
 #[derive(Drop)]
 pub struct Intake<'a, I: Ingress + Drop> {
     pub sources: Vec<WorkerSource<I>>,
@@ -71,7 +71,7 @@ fn add_source<I: Ingress + Drop>(
     Ok(())
 }
 
-/// The sources of workers to whom the caller's thread hands what comes.
+/// Returns the sources of workers to whom the caller's thread hands the datagrams.
 pub fn queued_intake<'a, R: Wait>(
     rt: &'a R,
     alloc: Global,
@@ -110,7 +110,7 @@ pub fn queued_intake<'a, R: Wait>(
     })
 }
 
-/// The sources of workers that receive for themselves, each from one of the sockets, until the flag is set.
+/// Returns the sources of workers that receive for themselves, each from one of the sockets, until the flag is set.
 pub fn direct_intake<'a, R: Wait>(
     rt: &'a R,
     alloc: Global,

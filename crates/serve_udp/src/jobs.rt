@@ -18,13 +18,13 @@ use std::net::{Net, UdpSocket};
 use std::sync::Wait;
 use std::sync::atomic::AtomicBool;
 
-// How many datagrams a batch judges at most.
+// The most datagrams that a batch judges.
 const LIMIT: u64 = 64;
 
 /// A job of the service.
 pub type ServiceJob<'a, I, R> = Job<WorkerSource<I>, MemberOutbox<'a, SocketEgress<'a, R>, R>>;
 
-// What a job has beside its worker and its counter.
+// The parts of a job besides its worker and its counter.
 struct Devices<'a, I: Ingress + Drop, R: Wait + Net> {
     source: WorkerSource<I>,
     outbox: MemberOutbox<'a, SocketEgress<'a, R>, R>,
@@ -103,8 +103,8 @@ fn add_job<'a, I: Ingress + Drop, R: Wait + Net>(
     };
 }
 
-/// Takes a worker, a counter, a source and a socket for each job, from the last ones on, and returns the jobs. All count by member in one table, and no send waits once
-/// the flag is set.
+/// Takes a worker, a counter, a source and a socket for each job, from the last ones on, and returns the jobs. All
+/// count by member in one table, and no send waits once the flag is set.
 pub fn jobs<'a, I: Ingress + Drop, R: Wait + Net>(
     rt: &'a R,
     alloc: Global,

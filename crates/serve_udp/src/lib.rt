@@ -1,8 +1,8 @@
 //! The switch over UDP (docs/COMMANDS.md, "serve"; docs/OPERATING.md): datagrams that come to the front are judged by worker threads
 //! and sent on to members, while control requests change the rules.
 //!
-//! The workers receive from the front for themselves, or the caller's thread hands them what comes in turn. It answers control itself, by
-//! serve_control: over UDP, or over a Unix socket by serve_unix.
+//! The workers receive from the front for themselves, or the caller's thread hands them the datagrams in turn. The
+//! caller's thread answers control itself, by serve_control: over UDP, or over a Unix socket by serve_unix.
 #![tactic(auto)]
 
 ghost use Rattle.std.specs.Prelude.{◌≡◌, ◌≢◌, ◌⊎◌, ◌↔◌, ◌≤◌, Err, IfErr, IfOk, OnOk, length, vec_len};
@@ -112,7 +112,8 @@ fn write_last<W: Write>(totals: &Totals, out: &mut W) -> Result<(), Failure>
     write_totals(totals, out).map_err(|_| Failure::WriteFailed)
 }
 
-// Runs the service once it is known who receives. What the sources are to give may be known: then their jobs judged and counted it.
+// Runs the service once it is known who receives. If it is known what the sources give, their jobs judged and counted
+// it.
 fn serve_intake<
     'a,
     I: Ingress + Drop + Send,
@@ -157,8 +158,9 @@ fn serve_intake<
 /// received. Each of the switch's workers receives from one of the sockets of the front, or is handed datagrams in turn, as the sockets were
 /// bound, and sends by one of the sockets for workers. Each control request that changes something or is not done is a line of the log.
 ///
-/// All memory but that of the threads, of queued datagrams, of control and of counters by member is taken before the line `ready`, from
-/// the configuration's allocator. It may wait, since nothing says that it is ever asked to stop.
+/// All memory except that of the threads, of queued datagrams, of control and of counters by member is taken before the
+/// line `ready`, from the configuration's allocator. The call may wait, since nothing says that it is ever asked to
+/// stop.
 pub fn serve_bound<R: Threads + Wait + Net + Sync, G: Gate + Sync, W: Write, L: LogLines>(
     rt: &R,
     config: Config,

@@ -23,7 +23,7 @@ use std::alloc::{AllocError, Global};
 use std::net::{Net, UdpSocket};
 use std::sync::Wait;
 
-/// What the service has beside its jobs.
+/// The parts of the service besides its jobs.
 #[derive(Drop)]
 pub struct Service<'a> {
     pub tally: Tally,
@@ -71,8 +71,8 @@ fn open_sockets<'a, N: Net>(
     }
 }
 
-/// Makes so many jobs and all that they and receiving need. The jobs have new workers of the operator's
-/// table, which opens with the configuration, and new counters of the tally, and count by member in the shared table.
+/// Makes `workers` jobs, and all that they and receiving need. The jobs have new workers of the operator's table, which
+/// opens with the configuration, and new counters of the tally. They count by member in the shared table.
 pub fn open_service<'a, I: Ingress + Drop, R: Wait + Net>(
     rt: &'a R,
     counts: &'a SharedCounts,

@@ -1,4 +1,4 @@
-//! The line that tells that the service is ready (docs/COMMANDS.md, "serve").
+//! The line that says that the service is ready (docs/COMMANDS.md, "serve").
 
 ghost use Rattle.std.specs.Prelude.{◌≡◌, ◌++◌, IfErr, OnOk, codes};
 ghost use Rattle.std.specs.Io.KnownBytes.{Appends};

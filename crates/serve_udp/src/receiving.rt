@@ -1,4 +1,5 @@
-//! The caller's thread of the service: it hands over what comes to it, and answers control, until it is asked to stop.
+//! The caller's thread of the service: it hands over the datagrams that come to it, and answers control, until it is
+//! asked to stop.
 
 use crate::sockets::Sockets;
 use dispatch::{NamedTally, TallyName};
@@ -17,7 +18,8 @@ pub enum Ended {
     PollFailed,
 }
 
-/// What receives, with the operator. When it is dropped no more datagrams come to the workers, so that they end.
+/// The sockets that receive, with the operator. When it is dropped no more datagrams come to the workers, so that they
+/// end.
 #[derive(Drop)]
 pub struct Receiver<'a> {
     pub sockets: Sockets<'a>,

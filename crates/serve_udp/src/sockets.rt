@@ -23,7 +23,7 @@ const FRONT: Token = Token(0);
 // The token of control, or the first of those of control over a Unix socket.
 const CONTROL: Token = Token(1);
 
-// How many datagrams the front gives before control has its turn.
+// The number of datagrams that the front gives before control has its turn.
 const FRONT_TURN: usize = 64;
 
 // One event a socket: the front, control, and its clients.
@@ -35,7 +35,7 @@ pub const LONGEST_DATAGRAM: usize = 65_535;
 // No reply is longer, so none takes memory.
 const LONGEST_REPLY: usize = 256;
 
-/// What receiving needs beside the sockets.
+/// The memory that receiving needs besides the sockets.
 #[derive(Drop)]
 pub struct Room {
     events: Events,
@@ -58,13 +58,13 @@ impl Room {
 #[derive(Drop)]
 struct UdpControl {
     socket: UdpSocket,
-    // What is sent to control from these is ignored.
+    // Datagrams to control from these addresses are ignored.
     bound: BoundAddresses,
     // Not known to be empty.
     is_ready: bool,
 }
 
-// The socket of control. What comes and what it sends is not known.
+// The socket of control. The datagrams that come and go are not known.
 #[derive(Drop)]
 struct SocketWire<'a> {
     socket: &'a UdpSocket,
@@ -98,11 +98,11 @@ enum Control {
     Unix(UnixControl),
 }
 
-/// The sockets, and what waits for them.
+/// The sockets, and the poll that waits for them.
 ///
-/// An event tells that a socket has something, and it tells it once; so what is not known to be empty is read until it would
-/// block.
-/// The reason: docs/INTERNALS.md, "Queued: a receive that finds nothing".
+/// An event reports that a socket has something, and it reports it once. Therefore a socket that is not known to be
+/// empty is read until it would block.
+/// The reason: docs/INTERNALS.md, "A socket is read until it would block".
 #[derive(Drop)]
 pub struct Sockets<'a> {
     poll: Poll,
@@ -294,7 +294,8 @@ impl<'a> Sockets<'a> {
         Ok(())
     }
 
-    /// Gives the front its turn, unless the workers receive from it: what comes goes to the workers in turn, a failed receive too.
+    /// Gives the front its turn, unless the workers receive from it: each datagram goes to the workers in turn, a
+    /// failed receive too.
     pub fn receive<R: Wait>(&mut self, rt: &R) {
         if let Some(front) = &mut self.receiving.front {
             front.turn(rt, &mut self.room.buf);

@@ -33,8 +33,8 @@ module _ {A : Type 0} (Notes : A → A → List ℕ → List ℕ → Type 0) whe
   IsNotedOf conversation state state' = (unheld : Option (List ℕ × List ℕ)) × IsUnheld conversation unheld × IsNoted unheld state state'
 
 module _ {S A : Type 0} (log : S → Option (List Event)) (Does : A → A → Exchange → Type 0) (Notes : A → A → List ℕ → List ℕ → Type 0) where
-  -- The client's conversation made a turn on the client's stream: what the stream gave went to this conversation, and what it took came
-  -- from it. A request that is not held was noted once.
+  -- The client's conversation made a turn on the client's stream: the bytes that the stream gave went to this conversation, and
+  -- those that it took came from it. A request that is not held was noted once.
   pub record IsClientTurn (before later : Client S) (state state' : A) (turn : Turn) : Type 0 where
     pub conversation : Conversation
     pub between : A

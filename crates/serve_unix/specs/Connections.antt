@@ -1,4 +1,5 @@
--- What contracts see of connections: which were accepted, which are watched, and what had happened on the streams of those that were closed.
+-- What contracts see of connections: those that were accepted, those that are watched, and the events on the streams of those
+-- that were closed.
 use Rattle.std.specs.Prelude.{◌≡◌, ◌++◌, ◌∷◌, Bool, List, None, Option, Some, [], false, true, ℕ}
 use Rattle.serve_stream.specs.Stream.{Event}
 use Rattle.serve_unix.specs.declared.connections.Accepted.{Accepted}
@@ -14,7 +15,7 @@ pub data Connection : Type 0 where
   not_watched : (place : ℕ) → Connection
   closed : (log : Option (List Event)) → Connection
 
--- what is told is what was told before, and then these; nothing may be told
+-- the log of connections is the log before, and then these; or nothing is known of them
 abbrev pub Tells : Option (List Connection) → Option (List Connection) → List Connection → Type 0
 Tells None later connections = Unit {0}
 Tells (Some log) None connections = ⊥
@@ -29,7 +30,7 @@ abbrev pub watched_by : Bool → ℕ → List Connection
 watched_by true place = watched place ∷ []
 watched_by false place = not_watched place ∷ []
 
--- nothing has happened on a stream, as far as it tells
+-- nothing has happened on a stream, as far as that is known
 abbrev pub IsUntouched : Option (List Event) → Type 0
 IsUntouched None = Unit {0}
 IsUntouched (Some log) = log ≡ []

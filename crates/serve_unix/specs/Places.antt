@@ -45,7 +45,7 @@ module _ {S : Type 0} (test : Option (Client S) → Bool) (seats : List (Option 
   IsFirstFrom from None = NonePasses from (length seats)
   IsFirstFrom from (Some place) = (seat : Option (Client S)) × (slice_get seats place ≡ Some seat) × (test seat ≡ true) × (from ≤ place) × NonePasses from place
 
-  -- the first from the next one on, or else the first of all
+  -- the first from the next one on, or otherwise the first of all
   abbrev pub IsNextOf : ℕ → Option ℕ → Type 0
   IsNextOf next None = IsFirstFrom 0 None
   IsNextOf next (Some place) = IsFirstFrom next (Some place) ⊎ (IsFirstFrom next None × IsFirstFrom 0 (Some place))
@@ -91,7 +91,7 @@ module _ {S : Type 0} where
       no_memory : (place : ℕ) (untouched : Option (List Event)) → IsNextOf is_free before.seats before.next (Some place) → after ≡ before
           → IsUntouched untouched → Admits before after (accepted ∷ watched place ∷ closed untouched ∷ [])
 
-    -- the same, once it is told that it was accepted
+    -- the same, once it is known that it was accepted
     pub record IsAdmitted (told told' : Option (List Connection)) (before after : Places S) : Type 0 where
       pub events : List Connection
       pub logged : Tells told told' events
@@ -102,13 +102,13 @@ module _ {S : Type 0} where
       one_client : (events : List Connection) → Admits before after events → Accepts before after events
       once_more : after ≡ before → Accepts before after (interrupted ∷ [])
 
-    -- so many times, one after the other
+    -- this many times, one after the other
     pub data AcceptsEach (before : Places S) : ℕ → List Connection → Places S → Type 0 where
       not_once : (after : Places S) → after ≡ before → AcceptsEach before 0 [] after
       and_then : (count : ℕ) (events more : List Connection) (between after : Places S) → AcceptsEach before count events between
           → Accepts between after more → AcceptsEach before (count + 1) (events ++ more) after
 
-    -- as far as it is told
+    -- as far as it is known
     pub record HasAcceptedSome (count : ℕ) (told told' : Option (List Connection)) (before after : Places S) : Type 0 where
       pub events : List Connection
       pub logged : Tells told told' events
@@ -141,7 +141,7 @@ is_stop Closed = false
 is_stop Stop = true
 
 module _ {S A : Type 0} (log : S → Option (List Event)) (Does : A → A → Exchange → Type 0) (Notes : A → A → List ℕ → List ℕ → Type 0) (TurnsTo : A → A → ℕ → Type 0) where
-  -- the client whose turn is next had its turn: who answers was told its number, and no other place changed
+  -- the client whose turn is next had its turn: the answering side was given its number, and no other place changed
   pub record IsNextTurn (before after : Places S) (state state' : A) (told told' : Option (List Connection)) (turn : Turn) : Type 0 where
     pub place : ℕ
     pub seat : Option (Client S)
@@ -159,7 +159,7 @@ module _ {S A : Type 0} (log : S → Option (List Event)) (Does : A → A → Ex
   IsTurnGiven state state' told told' before after None = IsFirstFrom is_active_in before.seats 0 None × (after ≡ before) × (state' ≡ state) × (told' ≡ told)
   IsTurnGiven state state' told told' before after (Some turn) = IsNextTurn before after state state' told told' turn
 
-  -- so many clients had their turns, one after the other, and none after one that asked the service to stop
+  -- this many clients had their turns, one after the other, and none after one that asked the service to stop
   pub data TurnsInOrder (before : Places S) (state : A) (told : Option (List Connection)) : ℕ → Bool → Places S → A → Option (List Connection) → Type 0 where
     no_turn : (after : Places S) (state' : A) (told' : Option (List Connection)) → after ≡ before → state' ≡ state → told' ≡ told → TurnsInOrder before state told 0 false after state' told'
     next_turn : (count : ℕ) (between after : Places S) (middle state' : A) (told₁ told' : Option (List Connection)) (turn : Turn)

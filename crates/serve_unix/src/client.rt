@@ -6,7 +6,7 @@ ghost use Rattle.serve_unix.specs.Client.{IsClientTurn, IsClosed, IsNotedOf, IsP
 use crate::connections::Connections;
 use serve_stream::{Answers, Conversation, Stream, Turn};
 
-/// How many requests of a client are answered in a turn.
+/// The most requests of a client that are answered in a turn.
 pub(crate) const TURN: usize = 4;
 
 /// A client.

@@ -23,7 +23,7 @@ pub struct Clients<S: Stream> {
     ghost of_places: { vec_len places ≡ CLIENTS },
 }
 
-// So many empty places.
+// Returns `CLIENTS` empty places.
 fn empty_places<S: Stream + Drop>(alloc: Global) -> Result<Vec<Option<Client<S>>>, AllocError>
     ensures { IfOk result (λ places. places.items ≡ replicate CLIENTS None) }
 {
@@ -110,8 +110,8 @@ impl<S: Stream + Drop> Clients<S> {
         })
     }
 
-    // Finds a place without a client: the first from the one on that has the next turn. So clients that come one after the other have
-    // their first turns in this order.
+    // Finds a place without a client: the first from the one on that has the next turn. Clients that come one after the
+    // other thus have their first turns in this order.
     fn free_place(&self) -> Option<usize>
         ensures { IsNextOf is_free self.now.places.items self.now.next result }
     {
@@ -201,7 +201,7 @@ impl<S: Stream + Drop> Clients<S> {
         }
     }
 
-    /// Tells whether a client may have something to do.
+    /// Tests whether a client may have something to do.
     pub fn is_active(&self) -> bool
         ensures { MatchBool result (IsSomeActive self.now.places.items) (IsFirstFrom is_active_in self.now.places.items 0 None) }
     {
@@ -211,7 +211,7 @@ impl<S: Stream + Drop> Clients<S> {
         }
     }
 
-    // Chooses the client whose turn is next, and gives its place.
+    // Chooses the client whose turn is next, and returns its place.
     fn next_turn(&self) -> Option<usize>
         ensures { IsNextOf is_active_in self.now.places.items self.now.next result }
     {

@@ -1,11 +1,11 @@
-//! Where clients come from, and how their connections are closed.
+//! Accepting clients, and closing their connections.
 
 ghost use Rattle.std.specs.Prelude.{◌≡◌, ◌∷◌, List, Option, []};
 ghost use Rattle.serve_unix.specs.Connections.{Connection, IsNewClient, Tells, accepted_by, closed, watched_by};
 
 use serve_stream::Stream;
 
-/// What was accepted.
+/// The result of an accept.
 pub enum Accepted<S> {
     /// A client, by its stream.
     Client(S),
@@ -17,7 +17,8 @@ pub enum Accepted<S> {
 
 /// The connections of clients, by their streams. No call of it waits.
 pub trait Connections<S: Stream> {
-    /// What was accepted, watched and closed, in order, if that is told. A socket tells nothing.
+    /// The clients that were accepted, watched and closed, in order, if they are known. For a socket they are not
+    /// known.
     ghost log: { Self → Option (List Connection) };
 
     /// Accepts a client that waits, on whose stream nothing has happened.
@@ -25,7 +26,7 @@ pub trait Connections<S: Stream> {
         ensures untouched { IsNewClient S.log result }
         ensures logged { Tells (log self.old) (log self.new) (accepted_by result) };
 
-    /// Has events of a client tell the place that it is to have. False if that fails.
+    /// Registers a client, so that its events name the place that it is to have. False if that fails.
     fn watch(&mut self, stream: &mut S, place: usize) -> bool
         ensures stream_kept { S.log stream.new ≡ S.log stream.old }
         ensures logged { Tells (log self.old) (log self.new) (watched_by result place) };

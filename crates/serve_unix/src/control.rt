@@ -93,7 +93,7 @@ impl UnixControl {
         }
     }
 
-    /// Tells whether something may be done without waiting.
+    /// Tests whether something may be done without waiting.
     pub fn is_ready(&self) -> bool {
         self.listener_ready || self.clients.is_active()
     }

@@ -12,9 +12,10 @@ use std::os::unix::net::SocketAddr;
 use std::{fs, io};
 
 // The folder alone says who may connect: everybody who may enter it.
+// The reason: docs/DECISIONS.md, "The folder says who may connect".
 const MODE: u32 = 0o666;
 
-// How many clients may wait to be accepted.
+// The number of clients that may wait to be accepted.
 const BACKLOG: i32 = 64;
 
 /// A socket file that was bound, by which it is known again.

@@ -17,7 +17,7 @@ impl ClientStream {
         ClientStream { socket }
     }
 
-    /// The socket, to be registered.
+    /// Returns the socket, to be registered.
     pub(crate) fn socket(&mut self) -> &mut UnixStream {
         &mut self.socket
     }

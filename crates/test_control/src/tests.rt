@@ -1,4 +1,4 @@
-//! What no command shows of control lines, scripts and their streams.
+//! Control lines, scripts and their streams in cases that no command shows.
 
 mod digits;
 mod judged;

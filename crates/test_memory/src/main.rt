@@ -15,7 +15,7 @@ use std::thread::Threads;
 
 const TRIES: u32 = 16;
 
-// What a call came to.
+// The result of a call.
 #[derive(Clone, Copy)]
 enum Outcome {
     Returned(usize),
@@ -24,7 +24,7 @@ enum Outcome {
     NoThread,
 }
 
-// How often a call was refused: for want of memory, while its arguments were made, and for want of a thread.
+// The refusals of a call: for lack of memory, while its arguments were made, and for lack of a thread.
 #[derive(Clone, Copy)]
 struct Refusals {
     memory: u32,
@@ -108,7 +108,7 @@ fn run_outcome<R: Threads + Wait + Sync>(rt: &R, alloc: Global) -> Outcome {
     }
 }
 
-// Adds a refusal. What the call returned, if it was none.
+// Adds a refusal. Returns what the call returned, if it was not refused.
 fn count(outcome: Outcome, refusals: &mut Refusals) -> Option<usize> {
     let refused = match outcome {
         Outcome::Returned(count) => return Some(count),

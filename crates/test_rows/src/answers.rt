@@ -1,4 +1,4 @@
-//! Rows of expressions on packets: what the evaluator says, and what the compiled program does.
+//! Rows of expressions on packets: the outcome of the evaluator, and of the compiled program.
 
 ghost use Rattle.std.specs.Prelude.{◌≤◌, length};
 ghost use Rattle.bpf_verify.specs.Program.{IsProgram};

@@ -1,4 +1,4 @@
-//! Rows of replies: how a reply is counted, and the summary of a text that comes in pieces.
+//! Rows of replies: the kind by which a reply is counted, and the summary of a text that comes in pieces.
 
 use crate::texts::with_lines;
 use control_summary::{ReplyCounts, reply_kind};

@@ -1,4 +1,4 @@
-//! Rows of texts: assembly and the words that it gives, expressions and their trees.
+//! Rows of texts: assembly and its words, expressions and their trees.
 
 use bpf_asm::{assemble, print};
 use bpf_verify::Program;
@@ -34,7 +34,7 @@ fn describe_words(alloc: Global, words: &[u64]) -> io::Result<String> {
     Ok(text)
 }
 
-/// `asm TEXT`: how many words the assembly text has, and the words; or its fault.
+/// `asm TEXT`: the number of words of the assembly text, and the words; or its fault.
 pub fn describe_assembly(alloc: Global, row: &str) -> io::Result<String> {
     let assembly = with_lines(alloc, row)?;
     match assemble(alloc, assembly.as_bytes()) {
@@ -88,7 +88,7 @@ fn describe_accepted(alloc: Global, words: Vec<u64>) -> io::Result<String> {
     }
 }
 
-/// `print TEXT`: the charge of the program that the assembly text gives, and the text that it is printed as.
+/// `print TEXT`: the charge of the program of the assembly text, and its printed text.
 pub fn describe_print(alloc: Global, row: &str) -> io::Result<String> {
     let assembly = with_lines(alloc, row)?;
     match assemble(alloc, assembly.as_bytes()) {
@@ -139,7 +139,7 @@ fn describe_tree(alloc: Global, tree: &Expr<Global>) -> io::Result<String> {
     )?)
 }
 
-/// `expr TEXT`: the depth, the cells and the size of the expression's tree, and the text that it is printed as; or its fault.
+/// `expr TEXT`: the depth, the cells and the size of the expression's tree, and its printed text; or its fault.
 pub fn describe_expression(alloc: Global, expression: &str) -> io::Result<String> {
     match parse(alloc, expression.as_bytes()) {
         Ok(tree) => describe_tree(alloc, &tree),
@@ -154,7 +154,7 @@ fn describe_fault(alloc: Global, expression: &[u8]) -> io::Result<String> {
     }
 }
 
-// A text that begins with one part so many times over, and ends with another.
+// A text that repeats one part `times` times, and ends with another.
 fn repeated(alloc: Global, part: &[u8], times: u32, end: &[u8]) -> io::Result<Vec<u8>> {
     let mut text = Vec::new(alloc);
     for _ in 0..times {
@@ -164,8 +164,8 @@ fn repeated(alloc: Global, part: &[u8], times: u32, end: &[u8]) -> io::Result<Ve
     Ok(text)
 }
 
-/// `repeat TIMES,PART,END`: the fault of the expression that has the part so many times and then the end, or that it has none. A
-/// part of two hexadecimal digits after `0x` is that byte.
+/// `repeat TIMES,PART,END`: the fault of the expression that repeats the part TIMES times and then has the end, or that
+/// it has none. A part of two hexadecimal digits after `0x` is that byte.
 pub fn describe_repeated(alloc: Global, row: &str) -> io::Result<String> {
     let (times, parts) = row.split_once(',').unwrap_or((row, ""));
     let (part, end) = parts.split_once(',').unwrap_or((parts, ""));

@@ -4,7 +4,7 @@ use bpf_insn::Insn;
 use std::alloc::Global;
 use std::io;
 
-// The instruction, its word, its bytes, and the instruction that its bytes give.
+// The instruction, its word, its bytes, and the instruction of its bytes.
 fn describe_instruction(alloc: Global, insn: Insn) -> io::Result<String> {
     let word = insn.to_word();
     let bytes = insn.to_bytes();

@@ -1,4 +1,5 @@
--- What a contract sees of a Book: how its numbers go with the operator's log, and how a publication and a scan change them.
+-- What a contract sees of a Book: the relation of its numbers to the operator's log, and their changes by a publication and a
+-- scan.
 use Rattle.std.specs.Prelude.{◌≡◌, ◌+◌, ◌<◌, ◌≤◌, ◌↔◌, ◌⊎◌, ◌∷◌, List, [], length, replicate, slice_index, slice_set, suc, ℕ}
 use mathlib.Core.Option.{some}
 use lib.ListN.{get_elem?}
@@ -14,9 +15,9 @@ IsLeast numbers least =
     ((w : ℕ) → w < length numbers → least ≤ slice_index numbers w) × ((w : ℕ) × (w < length numbers) × (slice_index numbers w ≡ least))
 
 module _ {C : Type 0} {A : Type 0} (shape : Shape C) where
-  -- the numbers tell what the operator's log and its lists of versions tell: the versions below `cleared` at w were scanned clear
-  -- of worker w; the last version in row r is one less than `last` at r, and the last one that named page q is one less than
-  -- `last_use` at q, where 0 stands for none; `free` is the least of `cleared`
+  -- the numbers agree with the operator's log and its lists of versions: the versions below `cleared` at w were scanned clear of
+  -- worker w; the last version in row r is one less than `last` at r, and the last one that named page q is one less than
+  -- `last_use` at q, with 0 for none; `free` is the least of `cleared`
   pub record IsBook (view : OperatorView C) (book : Book A) : Type 0 where
     pub number : book.number ≡ number_after view.log
     pub last_length : length book.last ≡ shape.rows
@@ -47,7 +48,7 @@ abbrev pub with_version_in : {A : Type 0} → ℕ → List ℕ → Book A → Bo
 with_version_in r pages before =
     record before { number = before.number + 1; last = slice_set before.last r (before.number + 2); last_use = used_by (before.number + 2) pages before.last_use }
 
--- the book after a scan of worker w that gave x
+-- the book after a scan of worker w that loaded x
 pub record IsCleared {A : Type 0} (w x : ℕ) (before after : Book A) : Type 0 where
   pub number : after.number ≡ before.number
   pub last : after.last ≡ before.last

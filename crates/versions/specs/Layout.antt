@@ -3,16 +3,16 @@ use Rattle.std.specs.Prelude.{◌≡◌, ◌+◌, ◌*◌, ◌<◌, ◌≤◌, L
 
 -- how a table stores configurations: in a row, and some of their words in pages of the pool
 pub record Form (C : Type 0) : Type 0 where
-  -- the words of a row, where the parts stand in these pages
+  -- the words of a row whose parts are in these pages
   pub row : C → List ℕ → List ℕ
-  -- the parts: words that stand in pages, each part from the first word of a page on
+  -- the parts: words that are in pages, each part from the first word of a page on
   pub parts : C → List (List ℕ)
-  -- the pages that the words of a row name; where the row holds a configuration, one for each part
+  -- the pages that the words of a row name; if the row contains a configuration, one for each part
   pub named : List ℕ → List ℕ
 
--- how many workers, rows and pages there are, how many words a row and a page have, the number of the last version, the greatest
--- charge, what a configuration is charged, and how it is stored. The laws hold for every shape; `the_shape` of specs/Table.antt
--- is the product's
+-- the numbers of workers, rows and pages, the numbers of words of a row and of a page, the number of the last version, the
+-- greatest charge, the charge of a configuration, and its form. The laws are true for every shape; `the_shape` of
+-- specs/Table.antt is the product's
 pub record Shape (C : Type 0) : Type 0 where
   pub workers : ℕ
   pub rows : ℕ
@@ -25,35 +25,35 @@ pub record Shape (C : Type 0) : Type 0 where
   pub form : Form C
 
 module _ {C : Type 0} (shape : Shape C) where
-  -- `current` where version n stands in row r
+  -- `current` if version n is in row r
   abbrev pub current_word : ℕ → ℕ → ℕ
   current_word n r = n * shape.rows + r
 
-  -- the rows stand behind `current` and the read words
+  -- the rows come after `current` and the read words
   abbrev pub rows_begin : ℕ
   rows_begin = 1 + shape.workers
 
-  -- where row r begins
+  -- the place of the first word of row r
   abbrev pub row_begin : ℕ → ℕ
   row_begin r = rows_begin + r * shape.row_words
 
-  -- the place is in row r. Whoever asks knows that there is such a row: behind the last one stands the pool
+  -- the place is in row r. A user of this knows that there is such a row: the pool comes after the last one
   abbrev pub IsInRow : ℕ → ℕ → Type 0
   IsInRow r place = (i : ℕ) × (i < shape.row_words) × (place ≡ row_begin r + i)
 
-  -- how many words the rows have
+  -- the number of words of the rows
   abbrev pub all_rows : ℕ
   all_rows = shape.rows * shape.row_words
 
-  -- how many words the rows and the pool have: those that the operator fills
+  -- the number of words of the rows and the pool, which the operator fills
   abbrev pub stored_words : ℕ
   stored_words = all_rows + shape.pages * shape.page_words
 
-  -- where page q begins: the pool stands behind the rows
+  -- the place of the first word of page q: the pool comes after the rows
   abbrev pub page_begin : ℕ → ℕ
   page_begin q = rows_begin + (all_rows + q * shape.page_words)
 
-  -- the place is in page q. Whoever asks knows that there is such a page
+  -- the place is in page q. A user of this knows that there is such a page
   abbrev pub IsInPage : ℕ → ℕ → Type 0
   IsInPage q place = (k : ℕ) × (k < shape.page_words) × (place ≡ page_begin q + k)
 
@@ -65,8 +65,8 @@ module _ {C : Type 0} (shape : Shape C) where
   abbrev pub pages_named : List ℕ → ℕ → List ℕ
   pages_named stored r = shape.form.named (row_at stored r)
 
-  -- the place is word k of the part at an index, in the page that these pages give that part. The end of a page, behind its
-  -- part, is no such place
+  -- the place is word k of the part at an index, in the page that these pages give that part. The end of a page, after its part,
+  -- is no such place
   pub record IsPartPlace (config : C) (pages : List ℕ) (place : ℕ) : Type 0 where
     pub index : ℕ
     pub page : ℕ
@@ -77,8 +77,8 @@ module _ {C : Type 0} (shape : Shape C) where
     pub inside : k < length part
     pub at : place ≡ page_begin page + k
 
-  -- row r and these pages hold the configuration, in a list of words in which the rows begin at the place `from`: the row has the
-  -- form's words, and each part stands in its page
+  -- row r and these pages contain the configuration, in a list of words in which the rows begin at the place `from`: the row has
+  -- the form's words, and each part is in its page
   pub record HoldsForm (from : ℕ) (words : List ℕ) (r : ℕ) (config : C) (pages : List ℕ) : Type 0 where
     pub counted : length pages ≡ length (shape.form.parts config)
     pub below : (index page : ℕ) → slice_get pages index ≡ Some page → page < shape.pages

@@ -1,4 +1,4 @@
--- Which steps are legal (docs/TABLE.md, "The eight steps").
+-- The steps that are legal (docs/TABLE.md, "The eight steps").
 use Rattle.std.specs.Prelude.{◌≡◌, ◌+◌, ◌<◌, ◌≤◌, ◌^◌, ◌⊎◌, ◌∷◌, List, Some, [], slice_index, ℕ}
 use mathlib.Core.Option.{some}
 use lib.ListN.{get_elem?}
@@ -33,7 +33,7 @@ IsInOrder stage (Leave w) x = (read_word : ℕ) × (n : ℕ) × (r : ℕ) × (st
 IsInOrder stage _ x = ⊥
 
 module _ {C : Type 0} where
-  -- the word at a place is x: a load of it gives that
+  -- the word at a place is x: a load of it loads x
   abbrev pub IsWordAt : State C → ℕ → ℕ → Type 0
   IsWordAt state place x = x ≡ slice_index state.words place
 
@@ -46,7 +46,7 @@ module _ {C : Type 0} (shape : Shape C) where
   abbrev pub IsInPool : ℕ → Type 0
   IsInPool place = (q : ℕ) × (q < shape.pages) × IsInPage shape q place
 
-  -- a fetch goes to the row of the version held, or to the pool: so much a log tells by itself
+  -- a fetch goes to the row of the version held, or to the pool: a log alone shows no more
   abbrev pub MayFetch : Stage → ℕ → Type 0
   MayFetch (Inside read_word n r) place = IsInRow shape r place ⊎ IsInPool place
   MayFetch _ place = ⊥
@@ -62,7 +62,7 @@ module _ {C : Type 0} (shape : Shape C) where
   IsLogOf w (newest ∷ older) =
       IsLogOf w older × IsStepOf w newest.step × IsInOrder (stage_after shape.rows older) newest.step newest.word × FetchesInReach (stage_after shape.rows older) newest.step
 
-  -- the place is a word of the version that worker w holds: the one rule on where a fetch may go, whatever its order
+  -- the place is a word of the version that worker w holds: the one rule on the place of a fetch, whatever its order
   abbrev pub HoldsPlace : State C → ℕ → ℕ → Type 0
   HoldsPlace state w place = (n : ℕ) × (r : ℕ) × HoldsVersion state w n r × IsWordOf shape state n place
 
@@ -70,8 +70,8 @@ module _ {C : Type 0} (shape : Shape C) where
   abbrev pub MayFill : OperatorView C → ℕ → Type 0
   MayFill view place = ((r : ℕ) × IsFreeRow shape view r × IsInRow shape r place) ⊎ ((q : ℕ) × IsFreePage shape view q × IsInPage shape q place)
 
-  -- the operator publishes its last proposal, from a free row that with the pages that it names holds that configuration, while
-  -- numbers last
+  -- the operator publishes its last proposal, from a free row that contains that configuration with the pages that it names,
+  -- while numbers last
   pub record CanPublish (state : State C) (r : ℕ) : Type 0 where
     pub free : IsFreeRow shape state.operator r
     pub config : C
@@ -90,12 +90,12 @@ module _ {C : Type 0} (shape : Shape C) where
   IsLegalStep state (Publish r) x = CanPublish state r × (x ≡ current_word shape (number_after state.operator.log + 1) r)
   IsLegalStep state (Scan place) x = (w : ℕ) × (w < shape.workers) × (place ≡ 1 + w) × IsWordAt state place x
 
-  -- a step is legal with the word that it loads or stores; a proposal is legal where its charge is at most the greatest
+  -- a step is legal with the word that it loads or stores; a proposal is legal if its charge is at most the greatest
   abbrev pub IsLegalEvent : State C → Event C → Type 0
   IsLegalEvent state (Stepped step x) = IsLegalStep state step x
   IsLegalEvent state (Proposed config) = shape.charge config ≤ shape.charge_limit
 
-  -- each event is legal where it comes
+  -- each event is legal after those before it
   abbrev pub IsLegal : State C → List (Event C) → Type 0
   IsLegal start [] = Unit {0}
   IsLegal start (newest ∷ older) = IsLegal start older × IsLegalEvent (state_after shape start older) newest

@@ -1,4 +1,5 @@
--- What a row in the pooled form and its pages tell, wherever they stand in the table (docs/SWITCH.md, "The pooled form").
+-- The words that a row in the pooled form and its pages decide, wherever they are in the table
+-- (docs/SWITCH.md, "The pooled form").
 use Rattle.std.specs.Prelude.{◌≡◌, ◌+◌, ◌*◌, ◌<◌, ◌≤◌, List, drop, length, slice_index, take, ℕ}
 use Rattle.config_image.specs.declared.TheConstants.{ROW_WORDS}
 use Rattle.config_image.specs.Image.{Group, image}
@@ -23,8 +24,8 @@ names_in row = take (header_count (slice_index row 0)) (drop (header_begin (slic
 abbrev pub pages_in : List ℕ → ℕ → List ℕ
 pages_in table r = pages_named the_shape (drop (rows_begin the_shape) table) r
 
--- where row r and these pages hold a configuration, they tell each word of the row that has the image, and the row names just these
--- pages
+-- if row r and these pages contain a configuration, they decide each word of the row that has the image, and the row names just
+-- these pages
 abbrev pub PooledFormStands : Type 0
 PooledFormStands = (words : List ℕ) (r : ℕ) (config : List Group) (pages : List ℕ) → length words ≡ stored_words the_shape → r < the_shape.rows
     → HasRoom config → HoldsForm the_shape 0 words r config pages

@@ -1,6 +1,6 @@
--- What holds in every legal trace: the promises of `every_trace`. Each is a fact of one state, and holds of each state that a
--- legal trace leads to. Since each beginning of a legal trace is legal, what is said of the next step there is said of every
--- step of every trace. Only what is reclaimed is told of a trace.
+-- The facts of every legal trace: the promises of `every_trace`. Each is a fact of one state, and is true of each state that a
+-- legal trace leads to. Since each beginning of a legal trace is legal, a fact about the next step there is true of every step of
+-- every trace. Only the fact about reclaiming is one of a trace.
 use Rattle.std.specs.Prelude.{◌≡◌, ◌+◌, ◌/◌, ◌%◌, ◌<◌, ◌≤◌, ◌⊎◌, Contains, List, Some, length, slice_get, slice_index, slice_set, suc, ℕ}
 use mathlib.Core.Option.{some}
 use lib.ListN.{get_elem?}
@@ -39,14 +39,14 @@ module _ {C : Type 0} (shape : Shape C) where
     -- at least each version published before
     pub since_publications : (n : ℕ) (config : C) → get_elem? state.operator.published n ≡ some config → n ≤ x / shape.rows
 
-  -- what worker w has seen is a beginning of what is published, up to the version that its last load of `current` gave, and it
-  -- knows the pages of the version that its last pin gave
+  -- the versions that worker w has seen are a beginning of the published ones, up to the version that its last load of `current`
+  -- loaded, and it knows the pages of the version that its last pin loaded
   pub record IsSeen (state : State C) (w : ℕ) (view : WorkerView C) : Type 0 where
     pub begins : BeginsWith state.operator.published view.seen
     pub up_to_last : length view.seen ≡ suc (last_seen shape.rows view.log)
     pub pages : get_elem? state.operator.version_pages (last_pinned shape.rows view.log) ≡ some view.pages
 
-  -- each peek and each pin gives the newest version, and each one in a log gave a published version
+  -- each peek and each pin loads the newest version, and each one in a log loaded a published version
   pub record LoadsNewest (state : State C) : Type 0 where
     pub loads : (step : Step) (x : ℕ) → LoadsCurrent step → IsLegalStep shape state step x → IsNewest state x
     pub logged : (w : ℕ) (view : WorkerView C) (e : Entry) → get_elem? state.workers w ≡ some view → Contains view.log e → LoadsCurrent e.step
@@ -60,37 +60,39 @@ module _ {C : Type 0} (shape : Shape C) where
   pub record ReclaimsNoneHeld (start : State C) (trace : List (Event C)) : Type 0 where
     pub not_reclaimed : (w n r : ℕ) → HoldsVersion (state_after shape start trace) w n r → IsReclaimed shape start trace n → ⊥
 
-  -- the version that a worker holds stands in its row and its pages, and may not be overwritten
+  -- the version that a worker holds is in its row and its pages, and may not be overwritten
   pub record KeepsHeld (state : State C) : Type 0 where
-    -- the row and the version's pages hold the published configuration
+    -- the row and the version's pages contain the published configuration
     pub words_stand : (w n r : ℕ) → HoldsVersion state w n r → (config : C) × (pages : List ℕ) × (get_elem? state.operator.published n ≡ some config)
         × (get_elem? state.operator.version_pages n ≡ some pages) × HoldsForm shape (rows_begin shape) state.words r config pages
     pub not_filled : (w n r place word x : ℕ) → HoldsVersion state w n r → IsLegalStep shape state (Fill place word) x → IsWordOf shape state n place → ⊥
     pub not_free : (w n r : ℕ) → HoldsVersion state w n r → IsFree shape n state.operator.log → ⊥
-    -- a scan that shows a replaced version clear of the worker shows that the worker holds a later one: what a grace period rests on
+    -- a scan that shows a replaced version clear of the worker shows that the worker holds a later one: a grace period depends on
+    -- that
     pub clear_below : (w n r m : ℕ) → HoldsVersion state w n r → IsScannedClear w m state.operator.log → m < n
     -- the row is the one in which the version was published, and no later version was published in it
     pub last_in_row : (w n r : ℕ) → HoldsVersion state w n r → IsLastIn r n state.operator.version_rows
 
-  -- a version that is not free stands in its row and the pages that the row names, and no page that it names is filled
+  -- a version that is not free is in its row and the pages that the row names, and no page that it names is filled
   pub record KeepsPool (state : State C) : Type 0 where
     pub stands : (n r : ℕ) (config : C) (pages : List ℕ) → get_elem? state.operator.published n ≡ some config → get_elem? state.operator.version_rows n ≡ some r
         → get_elem? state.operator.version_pages n ≡ some pages → (IsFree shape n state.operator.log → ⊥) → HoldsForm shape (rows_begin shape) state.words r config pages
     pub pool_kept : (n page place word x : ℕ) → IsLegalStep shape state (Fill place word) x → IsInPage shape page place → Names state.operator n page
         → IsFree shape n state.operator.log
-    -- so the current version names no page that is filled, nor does a version that a worker holds
+    -- therefore the current version names no page that is filled, nor does a version that a worker holds
     pub not_current : (page place word x : ℕ) → IsLegalStep shape state (Fill place word) x → IsInPage shape page place
         → Names state.operator (number_after state.operator.log) page → ⊥
     pub not_held : (w n r page place word x : ℕ) → HoldsVersion state w n r → IsLegalStep shape state (Fill place word) x → IsInPage shape page place → Names state.operator n page → ⊥
     pub names_stand : (n r : ℕ) (pages : List ℕ) → get_elem? state.operator.version_rows n ≡ some r → get_elem? state.operator.version_pages n ≡ some pages
         → (IsFree shape n state.operator.log → ⊥) → pages_named shape state.operator.stored r ≡ pages
 
-  -- x is what the form of a configuration has at the place, where row r and these pages hold it: a word of the row, or of a part
+  -- x is the word of a configuration's form at the place, if the form is in row r and these pages: a word of the row, or of a
+  -- part
   abbrev pub IsFormWord : ℕ → C → List ℕ → ℕ → ℕ → Type 0
   IsFormWord r config pages place x = ((i : ℕ) × (i < shape.row_words) × (place ≡ row_begin shape r + i) × (x ≡ slice_index (shape.form.row config pages) i))
       ⊎ ((at : IsPartPlace shape config pages place) × (slice_get at.part at.k ≡ Some x))
 
-  -- worker w holds a published version, and x is what the form of its configuration has at the place
+  -- worker w holds a published version, and x is the word of its configuration's form at the place
   pub record IsPublishedWord (state : State C) (w place x : ℕ) : Type 0 where
     pub version : ℕ
     pub row : ℕ
@@ -101,11 +103,11 @@ module _ {C : Type 0} (shape : Shape C) where
     pub named : get_elem? state.operator.version_pages version ≡ some pages
     pub word : IsFormWord row config pages place x
 
-  -- each fetch gives the word of the published configuration
+  -- each fetch loads the word of the published configuration
   pub record FetchesPublished (state : State C) : Type 0 where
     pub fetches : (w place x : ℕ) → IsLegalStep shape state (Fetch w place) x → IsPublishedWord state w place x
 
-  -- the place is a word of version n of a seen list, where that version stands in row r and these pages
+  -- the place is a word of version n of a seen list, if that version is in row r and these pages
   abbrev pub IsSeenPlace : List C → List ℕ → ℕ → ℕ → ℕ → Type 0
   IsSeenPlace seen pages n r place = IsInRow shape r place ⊎ ((config : C) × (get_elem? seen n ≡ some config) × IsPartPlace shape config pages place)
 
@@ -118,16 +120,16 @@ module _ {C : Type 0} (shape : Shape C) where
   abbrev pub IsHeldPlace : WorkerView C → ℕ → Type 0
   IsHeldPlace view place = IsHeldPlaceAt view.stage view.seen view.pages place
 
-  -- each worker's log is its own, in the order of a worker's steps, and leaves the worker where it is. Inside, the fetches since
-  -- the pin are of words of the version held
+  -- each worker's log is its own, in the order of a worker's steps, and ends at the worker's stage. Inside, the fetches since the
+  -- pin are of words of the version held
   pub record IsOwnLog (w : ℕ) (view : WorkerView C) : Type 0 where
     pub number : view.number ≡ w
     pub order : IsLogOf shape w view.log
     pub stage : view.stage ≡ stage_after shape.rows view.log
     pub fetched : OfFetches (IsHeldPlace view) view.log
 
-  -- a scan gives the read word after its worker's log, which begins with the log at the operator's scan before; that log is
-  -- kept, and the read word after it is the word that the scan gave
+  -- a scan loads the read word after its worker's log, which begins with the log at the operator's scan before; that log is kept,
+  -- and the read word after it is the word that the scan loaded
   pub record ScansTell (state : State C) : Type 0 where
     pub own_log : (w : ℕ) (view : WorkerView C) → get_elem? state.workers w ≡ some view → IsOwnLog w view
     pub scanned : (w x : ℕ) (view : WorkerView C) → get_elem? state.workers w ≡ some view
@@ -137,10 +139,10 @@ module _ {C : Type 0} (shape : Shape C) where
     pub kept : (w x : ℕ) (log : List Entry) → get_elem? state.operator.scanned_logs w ≡ some log
         → IsLastScan w x state.operator.log → x ≡ read_word_after log
 
-  -- each word of the table is as the one actor knows who stores it
+  -- each word of the table is as its one writer knows it
   pub record ViewsTellTable (state : State C) : Type 0 where
     pub words_length : length state.words ≡ rows_begin shape + stored_words shape
-    -- the word of the version published last, which stands in this row
+    -- the word of the version published last, which is in this row
     pub current : (r : ℕ) × (get_elem? state.operator.version_rows (number_after state.operator.log) ≡ some r)
         × (slice_index state.words 0 ≡ current_word shape (number_after state.operator.log) r)
     pub workers_length : length state.workers ≡ shape.workers

@@ -1,5 +1,5 @@
--- The table and what its actors know, after any list of events. A trace has the newest event first: the trace after an event
--- is that event in front of the trace before it.
+-- The table and the knowledge of its actors, after any list of events. A trace has the newest event first: the trace after an
+-- event is that event in front of the trace before it.
 use Rattle.std.specs.Prelude.{◌≡◌, ◌+◌, ◌++◌, ◌-◌, ◌/◌, ◌<◌, ◌≤◌, ◌⊎◌, ◌∷◌, List, None, [], length, replicate, slice_index_or, slice_set, suc, zero, ℕ}
 use mathlib.Core.Option.{some}
 use lib.ListN.{get_elem?}
@@ -14,13 +14,13 @@ use Rattle.versions.specs.declared.view.OperatorView.{OperatorView}
 use Rattle.versions.specs.Layout.{HoldsForm, IsInRow, IsPartPlace, Shape, pages_named, rows_begin, stored_words}
 use Rattle.versions.specs.View.{after_announce, after_fetch, after_fill, after_leave, after_peek, after_pin, after_proposal, after_publish, after_scan, new_worker, up_to}
 
--- the words of the table, what each worker knows, and what the operator knows
+-- the words of the table, the knowledge of each worker, and the knowledge of the operator
 pub record State (C : Type 0) : Type 0 where
   pub words : List ℕ
   pub workers : List (WorkerView C)
   pub operator : OperatorView C
 
--- the list with a function of what stands at a place there
+-- the list with a function applied to the element at a place
 abbrev pub change : {A : Type 0} → ℕ → (A → A) → List A → List A
 change n f [] = []
 change zero f (x ∷ xs) = f x ∷ xs
@@ -38,12 +38,12 @@ module _ {C : Type 0} where
   new_workers config pages k zero = []
   new_workers config pages k (suc n) = new_worker config pages k ∷ new_workers config pages (suc k) n
 
-  -- worker w holds version n, which stands in row r: from the pin that gave n until its next leave
+  -- worker w holds version n, which is in row r: from the pin that loaded n until its next leave
   abbrev pub HoldsVersion : State C → ℕ → ℕ → ℕ → Type 0
   HoldsVersion state w n r = (view : WorkerView C) × (read_word : ℕ) × (get_elem? state.workers w ≡ some view) × (view.stage ≡ Inside read_word n r)
 
 module _ {C : Type 0} (shape : Shape C) where
-  -- the state after a step that loads or stores x; a peek or pin shows the published versions up to the one that it gives, and a
+  -- the state after a step that loads or stores x; a peek or pin shows the published versions up to the one that it loads, and a
   -- pin the pages of that one. A new version names the pages that its row names
   abbrev pub after_step : State C → Step → ℕ → State C
   after_step state (Peek w) x =
@@ -92,15 +92,15 @@ module _ {C : Type 0} (shape : Shape C) where
     operator = new_operator config stored;
   }
 
-  -- a table opens with a configuration that is not charged too much, and that row 0 and the pages which it names hold
+  -- a table opens with a configuration that is not charged too much, and that is in row 0 and the pages which that row names
   pub record IsOpening (config : C) (stored : List ℕ) : Type 0 where
     pub charge : shape.charge config ≤ shape.charge_limit
     pub some_row : 0 < shape.rows
     pub whole : length stored ≡ stored_words shape
     pub held : HoldsForm shape 0 stored 0 config (pages_named shape stored 0)
 
-  -- the place is a word of version n: it is in the row in which n was published, or in one of n's pages, where a part of n's
-  -- configuration stands
+  -- the place is a word of version n: it is in the row in which n was published, or in one of n's pages, in the part of n's
+  -- configuration there
   abbrev pub IsWordOf : State C → ℕ → ℕ → Type 0
   IsWordOf state n place = ((r : ℕ) × (get_elem? state.operator.version_rows n ≡ some r) × IsInRow shape r place)
       ⊎ ((config : C) × (pages : List ℕ) × (get_elem? state.operator.published n ≡ some config) × (get_elem? state.operator.version_pages n ≡ some pages) × IsPartPlace shape config pages place)

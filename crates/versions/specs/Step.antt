@@ -1,4 +1,4 @@
--- The steps: which word of the table each is on, and whose it is.
+-- The steps: the word of the table that each is on, and the actor that makes it.
 use Rattle.std.specs.Prelude.{◌≡◌, ◌+◌, ℕ}
 use Rattle.versions.specs.declared.step.Step.{Step}
 use Rattle.versions.specs.declared.step.Step.TheVariants.{Announce, Fetch, Fill, Leave, Peek, Pin, Publish, Scan}

@@ -1,5 +1,5 @@
--- What each actor knows, and how each of its own steps changes that. Logs have the newest entry first: the log after a step
--- is that step's entry in front of the log before it.
+-- The knowledge of each actor, and its change by each of the actor's own steps. Logs have the newest entry first: the log after a
+-- step is that step's entry in front of the log before it.
 use Rattle.std.specs.Prelude.{◌≡◌, ◌+◌, ◌++◌, ◌-◌, ◌/◌, ◌%◌, ◌∷◌, List, None, Option, Some, [], slice_set, suc, take, ℕ}
 use Rattle.versions.specs.declared.step.Step.{Step}
 use Rattle.versions.specs.declared.step.Step.TheVariants.{Announce, Fetch, Fill, Leave, Peek, Pin, Publish, Scan}
@@ -10,7 +10,7 @@ use Rattle.versions.specs.declared.view.WorkerView.{WorkerView}
 use Rattle.versions.specs.declared.view.OperatorView.{OperatorView}
 use Rattle.versions.specs.Step.{entry}
 
--- what a worker's read word is: what it announced, and 0 outside
+-- a worker's read word: the word that it announced, and 0 outside
 abbrev pub read_word_of : Stage → ℕ
 read_word_of Outside = 0
 read_word_of (Peeked n) = 0
@@ -22,7 +22,7 @@ abbrev pub stage_after_peek : Stage → ℕ → Stage
 stage_after_peek (Inside k n r) version = Inside k n r
 stage_after_peek _ version = Peeked version
 
--- from its pin on, a worker holds the version that the pin gave
+-- from its pin on, a worker holds the version that the pin loaded
 abbrev pub stage_after_pin : Stage → ℕ → ℕ → Stage
 stage_after_pin stage version r = Inside (read_word_of stage) version r
 
@@ -34,7 +34,7 @@ next_stage rows stage (Pin w) x = stage_after_pin stage (x / rows) (x % rows)
 next_stage rows stage (Leave w) x = Outside
 next_stage rows stage _ x = stage
 
--- where a worker is after its log
+-- the stage of a worker after its log
 abbrev pub stage_after : ℕ → List Entry → Stage
 stage_after rows [] = Outside
 stage_after rows (newest ∷ older) = next_stage rows (stage_after rows older) newest.step newest.word
@@ -44,7 +44,7 @@ read_word_by (Announce w) x before = x
 read_word_by (Leave w) x before = 0
 read_word_by _ x before = before
 
--- the read word after a worker's log: what its last announce or leave stored, and 0 at first
+-- the read word after a worker's log: the word that its last announce or leave stored, and 0 at first
 abbrev pub read_word_after : List Entry → ℕ
 read_word_after [] = 0
 read_word_after (newest ∷ older) = read_word_by newest.step newest.word (read_word_after older)
@@ -54,7 +54,7 @@ version_by rows (Peek w) x before = x / rows
 version_by rows (Pin w) x before = x / rows
 version_by rows _ x before = before
 
--- the version that a worker's last load of `current` gave, and 0 at first
+-- the version that a worker's last load of `current` loaded, and 0 at first
 abbrev pub last_seen : ℕ → List Entry → ℕ
 last_seen rows [] = 0
 last_seen rows (newest ∷ older) = version_by rows newest.step newest.word (last_seen rows older)
@@ -63,7 +63,7 @@ abbrev pub pinned_by : ℕ → Step → ℕ → ℕ → ℕ
 pinned_by rows (Pin w) x before = x / rows
 pinned_by rows _ x before = before
 
--- the version that a worker's last pin gave, and 0 at first
+-- the version that a worker's last pin loaded, and 0 at first
 abbrev pub last_pinned : ℕ → List Entry → ℕ
 last_pinned rows [] = 0
 last_pinned rows (newest ∷ older) = pinned_by rows newest.step newest.word (last_pinned rows older)
@@ -73,7 +73,8 @@ OfFetchesBy Fact (Fetch w place) before = Fact place × before
 OfFetchesBy Fact (Peek w) before = before
 OfFetchesBy Fact _ before = Unit {0}
 
--- the fact holds of the place of each fetch that came after the log's last announce, pin or leave: inside a section, after its pin
+-- the fact is true of the place of each fetch that came after the log's last announce, pin or leave: inside a section, after its
+-- pin
 abbrev pub OfFetches : (ℕ → Type 0) → List Entry → Type 0
 OfFetches Fact [] = Unit {0}
 OfFetches Fact (newest ∷ older) = OfFetchesBy Fact newest.step (OfFetches Fact older)
@@ -87,7 +88,7 @@ module _ {C : Type 0} where
   abbrev pub BeginsWith : List C → List C → Type 0
   BeginsWith list front = (rest : List C) × (list ≡ front ++ rest)
 
-  -- a worker is told of versions: its seen list begins with them
+  -- a worker has learned of versions: its seen list begins with them
   abbrev pub IsTold : List C → WorkerView C → Type 0
   IsTold versions view = BeginsWith view.seen versions
 
@@ -95,12 +96,12 @@ module _ {C : Type 0} where
   abbrev pub up_to : ℕ → List C → List C
   up_to n published = take (suc n) published
 
-  -- a worker outside, that made no step, where the first configuration is version 0 and stands in these pages
+  -- a worker outside, that made no step; the first configuration is version 0 and is in these pages
   abbrev pub new_worker : C → List ℕ → ℕ → WorkerView C
   new_worker config pages w = record { number = w; stage = Outside; log = []; seen = config ∷ []; pages = pages }
 
-  -- what a worker knows after each of its steps; `seen` is its seen list after a load of `current`, and `pages` are those of the
-  -- version that a pin gave
+  -- the knowledge of a worker after each of its steps; `seen` is its seen list after a load of `current`, and `pages` are those
+  -- of the version that a pin loaded
   abbrev pub after_peek : ℕ → ℕ → List C → WorkerView C → WorkerView C
   after_peek rows x seen view =
       record view { stage = stage_after_peek view.stage (x / rows); log = entry (Peek view.number) x ∷ view.log; seen = seen }
@@ -122,7 +123,7 @@ module _ {C : Type 0} where
   listed None = []
   listed (Some config) = config ∷ []
 
-  -- what the operator knows after each of its steps; the rows begin at the place `rows_begin`
+  -- the knowledge of the operator after each of its steps; the rows begin at the place `rows_begin`
   abbrev pub after_fill : ℕ → ℕ → ℕ → OperatorView C → OperatorView C
   after_fill rows_begin place x view =
       record view { log = entry (Fill place x) x ∷ view.log; stored = slice_set view.stored (place - rows_begin) x }

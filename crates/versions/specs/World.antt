@@ -10,21 +10,21 @@ use Rattle.versions.specs.Layout.{all_rows, stored_words}
 use Rattle.versions.specs.State.{State, start_of, state_after}
 use Rattle.versions.specs.Table.{the_shape}
 
--- so many pages, from page 0 on
+-- `count` pages, from page 0 on
 abbrev pub first_pages : ℕ → List ℕ
 first_pages count = range_with_len 0 count
 
--- the words of a program in pages of its own: zeros stand behind them, up to the end of the last page
+-- the words of a program in pages of its own: zeros come after them, up to the end of the last page
 abbrev pub in_pages : List ℕ → List ℕ
 in_pages words = words ++ replicate (pages_for (length words) * PAGE_WORDS - length words) 0
 
--- what rows and pool hold at the opening, up to the configuration's last page: its row is row 0, and its programs stand one behind
--- the other in the pool's first pages
+-- the words of the rows and the pool at the opening, up to the configuration's last page: its row is row 0, and its programs are
+-- one after the other in the pool's first pages
 abbrev pub opening_front : List Group → List ℕ
 opening_front config =
     pooled_row config (first_pages (length (parts config))) ++ (replicate (all_rows the_shape - the_shape.row_words) 0 ++ flat_map in_pages (words_of_programs config))
 
--- all of it: behind that page stand zeros
+-- all of it: zeros come after that page
 abbrev pub opening_stored : List Group → List ℕ
 opening_stored config = opening_front config ++ replicate (stored_words the_shape - length (opening_front config)) 0
 

@@ -1,5 +1,5 @@
-//! The operator's book of its own steps: how far versions are, what each row held last, which version named each page last, and
-//! what scans showed clear.
+//! The operator's book of its own steps: the number of the current version, the last version of each row, the last
+//! version that named each page, and the versions that scans showed clear.
 
 ghost use Rattle.std.specs.Prelude.{◌≡◌, ◌<◌, ◌≤◌, ◌↔◌, IfOk, IsTrue, List, length, map, slice_get, slice_index, Some, ℕ};
 ghost use Rattle.config_image.specs.Image.{Group};
@@ -17,15 +17,15 @@ use crate::page_uses::PageUses;
 use config_image::{PAGE_WORDS, PageEntry};
 use std::alloc::{AllocError, Allocator, Global};
 
-/// What tells the current number, free versions, free rows and free pages: a number for each row, page and worker. Who makes the
-/// operator's steps counts them here.
+/// The numbers that decide the current version, free versions, free rows and free pages: one for each row, page and
+/// worker. The code that makes the operator's steps counts them here.
 #[derive(Drop)]
 pub struct Book<A: Allocator = Global> {
     /// The number of the current version.
     pub number: u64,
-    /// For each row one more than the number of its last version, 0 where it was never used.
+    /// For each row one more than the number of its last version, 0 if it was never used.
     pub last: [u64; ROWS],
-    /// For each page one more than the number of the last version that named it, 0 where none did.
+    /// For each page one more than the number of the last version that named it, 0 if none did.
     pub last_use: PageUses<A>,
     /// For each worker: the versions below this number were scanned clear of it since they were replaced.
     pub cleared: [u64; WORKERS],
@@ -34,7 +34,8 @@ pub struct Book<A: Allocator = Global> {
 }
 
 impl<A: Allocator> Book<A> {
-    /// The book of an operator that made no step: version 0 is in row 0 and names the first `count` pages, and nothing was scanned.
+    /// Returns the book of an operator that made no step: version 0 is in row 0 and names the first `count` pages, and
+    /// nothing was scanned.
     pub fn at_start(alloc: A, count: usize) -> Result<Book<A>, AllocError>
         requires { count ≤ PAGES }
         ensures at_start { IfOk result (IsBookAtStart (first_pages count)) }
@@ -54,14 +55,14 @@ impl<A: Allocator> Book<A> {
         })
     }
 
-    /// Tells how many versions are free: those below the result.
+    /// Returns the number of free versions: those below the result.
     pub fn free_versions(&self) -> u64
         ensures free_below { (view : OperatorView (List Group)) → IsBook the_shape view self.now → (m : ℕ) → IsFree the_shape m view.log ↔ (m < result) }
     {
         self.free
     }
 
-    /// Tests whether a row is free; false where there is no such row.
+    /// Tests whether a row is free; false if there is no such row.
     pub fn is_free(&self, row: usize) -> bool
         ensures free_row_exact { (view : OperatorView (List Group)) → IsBook the_shape view self.now → IsTrue result ↔ IsFreeRow the_shape view row }
         ensures a_row { IsTrue result → row < ROWS }
@@ -69,7 +70,7 @@ impl<A: Allocator> Book<A> {
         row < ROWS && self.last[row] <= self.free
     }
 
-    /// Tests whether a page is free; false where there is no such page.
+    /// Tests whether a page is free; false if there is no such page.
     pub fn page_is_free(&self, page: usize) -> bool
         ensures free_page_exact { (view : OperatorView (List Group)) → IsBook the_shape view self.now → IsTrue result ↔ IsFreePage the_shape view page }
         ensures a_page { IsTrue result → page < PAGES }
@@ -105,8 +106,8 @@ impl<A: Allocator> Book<A> {
         }
     }
 
-    // The least of what was cleared, of which none is below `free`. Who scans all workers begins with the first one, so what the last
-    // one shows is the least until that one is scanned, and all are looked at once.
+    // Returns the least of `cleared`, of which none is below `free`. A scan of all workers begins with the first one,
+    // so the last one has the least number until it is scanned, and all are looked at once.
     fn least_from(&self, free: u64) -> u64
         ensures { ((w : ℕ) → w < length self.now.cleared → free ≤ slice_index self.now.cleared w) → IsLeast self.now.cleared result }
     {
@@ -116,7 +117,7 @@ impl<A: Allocator> Book<A> {
         least(&self.cleared)
     }
 
-    /// Counts a scan of a worker's read word, which gave `word`.
+    /// Counts a scan of a worker's read word, which loaded `word`.
     pub fn take_scan(&mut self, worker: usize, word: u64)
         requires worker { worker < WORKERS }
         ensures cleared { length self.old.cleared ≡ WORKERS → IsCleared worker word self.old self.new }

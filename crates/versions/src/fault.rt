@@ -10,7 +10,7 @@ use std::alloc::AllocError;
 pub enum StepFault {
     /// The step is not legal here, whatever word it would load or store.
     NotLegal,
-    /// A growth was refused, and nothing was changed.
+    /// An allocation was refused, and nothing was changed.
     OutOfMemory,
     /// The configuration's charge is above `CHARGE_LIMIT`.
     TooBig,

@@ -1,5 +1,5 @@
-//! Rows in the pooled form (docs/SWITCH.md, "The pooled form"): the pages that a row names, whether a row and its pages hold a
-//! configuration, and which places of the table are a version's.
+//! Rows in the pooled form (docs/SWITCH.md, "The pooled form"): the pages that a row names, whether a row and its pages
+//! contain a configuration, and which places of the table belong to a version.
 
 ghost use Rattle.std.specs.Prelude.{◌≡◌, ◌+◌, ◌-◌, ◌*◌, ◌/◌, ◌%◌, ◌<◌, ◌≤◌, ◌⊎◌, ◌↔◌, IsTrue, List, MatchOption, Some, length, map, slice_get, slice_index, take, ℕ};
 ghost use Rattle.config_image.specs.Image.{Group, image};
@@ -20,7 +20,7 @@ use std::alloc::Allocator;
 
 /// Lends the page table entries among the words of a row, in their order. Each is a `PageEntry`.
 ///
-/// It is told by the row's first word, also where the row holds no configuration.
+/// The row's first word decides which words they are, even if the row contains no configuration.
 pub fn row_names(row: &[u64]) -> &[u64]
     requires first { 0 < length row.now }
     ensures names { result.now ≡ names_in row.now }
@@ -42,7 +42,7 @@ pub(crate) fn row_of(words: &[u64], row: usize) -> &[u64]
     &words[begin..begin + ROW_WORDS]
 }
 
-// The place in the image where a part begins, or `end` behind the last one.
+// Returns the place in the image at which a part begins, or `end` after the last one.
 fn part_begin(names: &[u64], index: usize, end: usize) -> usize
     ensures { result ≡ begin_in names.now end index }
 {
@@ -52,7 +52,7 @@ fn part_begin(names: &[u64], index: usize, end: usize) -> usize
     }
 }
 
-// How many words a part has, where `end` is the end of the last one.
+// Returns the number of words of a part; `end` is the end of the last one.
 fn part_len(names: &[u64], index: usize, end: usize) -> usize
     requires { index < length names.now }
     ensures { result ≡ begin_in names.now end (index + 1) - begin_in names.now end index }
@@ -73,7 +73,7 @@ fn is_part_word(names: &[u64], end: usize, page: usize, k: usize) -> bool
     false
 }
 
-// Tests whether a place of the table is a word of the version that stands in a row and the pages that it names.
+// Tests whether a place of the table is a word of the version that is in a row and the pages that it names.
 pub(crate) fn is_version_word(words: &[u64], row: usize, place: usize) -> bool
     requires table { length words.now ≡ TABLE_WORDS }
     requires row { row < ROWS }
@@ -89,7 +89,7 @@ pub(crate) fn is_version_word(words: &[u64], row: usize, place: usize) -> bool
     is_part_word(row_names(row_words), end, at / PAGE_WORDS, at % PAGE_WORDS)
 }
 
-// The pages of the page table entries, if each of them is a page of the pool.
+// Returns the pages of the page table entries, if each of them is a page of the pool.
 fn pages_of_names(names: &[u64]) -> Option<[u32; PAGE_LIMIT]>
     requires { length names.now ≤ PAGE_LIMIT }
     ensures { MatchOption result ((index : ℕ) × (page : ℕ) × (slice_get (map page_of names.now) index ≡ Some page) × (PAGES ≤ page))
@@ -106,7 +106,7 @@ fn pages_of_names(names: &[u64]) -> Option<[u32; PAGE_LIMIT]>
     Some(pages)
 }
 
-// Tests a row's words against those of a configuration whose parts stand in these pages.
+// Tests a row's words against those of a configuration whose parts are in these pages.
 fn row_stands<A: Allocator>(row_words: &[u64], config: &Config<A>, pages: &[u32]) -> bool
     requires row { length row_words.now ≡ ROW_WORDS }
     requires pages { ArePages config.now pages.now }
@@ -161,7 +161,8 @@ fn parts_stand<A: Allocator>(words: &[u64], config: &Config<A>, names: &[u64]) -
     true
 }
 
-// Tests whether a row and the pages that it names hold a configuration: one pass over the row's words, and one over the parts'.
+// Tests whether a row and the pages that it names contain a configuration: one pass over the row's words, and one over
+// the parts'.
 pub(crate) fn holds_form<A: Allocator>(words: &[u64], row: usize, config: &Config<A>) -> bool
     requires table { length words.now ≡ TABLE_WORDS }
     requires row { row < ROWS }

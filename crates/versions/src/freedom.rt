@@ -1,4 +1,4 @@
-//! What tells that versions, rows and pages are free: scans, counted by worker.
+//! Finding free versions, rows and pages by scans, counted by worker.
 ghost use Rattle.std.specs.Prelude.{◌≡◌, ◌<◌, ◌≤◌, length, slice_index, ℕ, ◌↔◌};
 ghost use Rattle.versions.specs.Free.{FreeBelow, FreeRowsAreFree, FreeStaysFree, IsClear};
 ghost use Rattle.versions.specs.Table.{the_shape};
@@ -11,7 +11,7 @@ pub fn free_versions()
     ensures free_rows { FreeRowsAreFree the_shape }
 {}
 
-/// Tells the least of some numbers.
+/// Returns the least of some numbers.
 pub(crate) fn least(numbers: &[u64]) -> u64
     requires { 0 < length numbers.now }
     ensures below { (w : ℕ) → w < length numbers.now → result ≤ slice_index numbers.now w }
@@ -26,8 +26,8 @@ pub(crate) fn least(numbers: &[u64]) -> u64
     found
 }
 
-/// Tells how many versions a scan that gives `word` shows clear, where the current version has the number `number`: those
-/// below the result.
+/// Returns the number of versions that a scan shows clear, if it loads `word` and the current version has the number
+/// `number`: those below the result.
 pub(crate) fn clear_below(number: u64, word: u64) -> u64
     ensures { (m : ℕ) → (m < result) ↔ ((m < number) × IsClear m word) }
 {

@@ -23,8 +23,8 @@ pub const WORKERS: usize = 64;
 /// The number of rows: row r begins at word 65 + 8192 * r.
 pub const ROWS: usize = 16;
 
-/// The number of pages: page q begins at word 131,137 + 16 * q. Where a row is free, the versions of the other rows and one
-/// version more never name all of them (`read_section::Operator::free_page`).
+/// The number of pages: page q begins at word 131,137 + 16 * q. If a row is free, the versions of the other rows and
+/// one version more never name all of them (`read_section::Operator::free_page`).
 pub const PAGES: usize = ROWS * 2048;
 
 /// The greatest charge of a configuration, so that its image fits a row.
@@ -33,10 +33,10 @@ pub const CHARGE_LIMIT: u64 = 8192;
 /// The number of the last version that may be published.
 pub const LAST_NUMBER: u64 = 1 << 48;
 
-/// Where the first row begins: behind `current` and the read words.
+/// The place of the first row: after `current` and the read words.
 pub const ROWS_BEGIN: usize = 1 + WORKERS;
 
-/// Where the pool of pages begins: behind the rows.
+/// The place of the pool of pages: after the rows.
 pub const POOL_BEGIN: usize = ROWS_BEGIN + ROWS * ROW_WORDS;
 
 /// The number of words of the whole table.
@@ -53,7 +53,7 @@ pub fn limits_as_numbers()
     ensures table_words { TABLE_WORDS ≡ 655425 }
 {}
 
-/// The place of a worker's read word.
+/// Returns the place of a worker's read word.
 #[inline(always)]
 pub fn read_word_place(worker: usize) -> usize
     requires { worker < WORKERS }
@@ -62,7 +62,7 @@ pub fn read_word_place(worker: usize) -> usize
     1 + worker
 }
 
-/// The place of the first word of a row: its header.
+/// Returns the place of the first word of a row: its header.
 #[inline(always)]
 pub fn row_begin(row: usize) -> usize
     requires { row < ROWS }
@@ -71,7 +71,7 @@ pub fn row_begin(row: usize) -> usize
     ROWS_BEGIN + row * ROW_WORDS
 }
 
-/// The place of word `i` of a row, counted from 0.
+/// Returns the place of word `i` of a row, counted from 0.
 #[inline(always)]
 pub fn row_place(row: usize, i: usize) -> usize
     requires row { row < ROWS }
@@ -81,7 +81,7 @@ pub fn row_place(row: usize, i: usize) -> usize
     row_begin(row) + i
 }
 
-/// The place of word `k` of a page, counted from 0.
+/// Returns the place of word `k` of a page, counted from 0.
 #[inline(always)]
 pub fn page_place(page: usize, k: usize) -> usize
     requires page { page < 65536 }
@@ -91,7 +91,7 @@ pub fn page_place(page: usize, k: usize) -> usize
     POOL_BEGIN + page * PAGE_WORDS + k
 }
 
-/// The word of `current` while this version is current and in this row.
+/// Returns the word of `current` while this version is current and in this row.
 #[inline(always)]
 pub fn current_word(number: u64, row: usize) -> u64
     requires number { number ≤ LAST_NUMBER }
@@ -101,7 +101,7 @@ pub fn current_word(number: u64, row: usize) -> u64
     number * ROWS as u64 + row as u64
 }
 
-/// The number of the version in a word of `current`.
+/// Returns the number of the version in a word of `current`.
 #[inline(always)]
 pub fn current_version(word: u64) -> u64
     ensures { result ≡ word / ROWS }
@@ -109,7 +109,7 @@ pub fn current_version(word: u64) -> u64
     word / ROWS as u64
 }
 
-/// The row of the version in a word of `current`.
+/// Returns the row of the version in a word of `current`.
 #[inline(always)]
 pub fn current_row(word: u64) -> usize
     ensures row { result ≡ word % ROWS }
@@ -124,7 +124,8 @@ pub(crate) fn is_in_row(row: usize, place: usize) -> bool
     place >= ROWS_BEGIN && (place - ROWS_BEGIN) / ROW_WORDS == row
 }
 
-/// Word `i` of the row that a section shows, counted from 0: a word of the configuration's image, or 0 after its end.
+/// Returns word `i` of the row that a section shows, counted from 0: a word of the configuration's image, or 0 after
+/// its end.
 pub fn row_word<A: Allocator>(config: &Config<A>, i: usize) -> u64
     requires { i < ROW_WORDS }
     ensures { result ≡ slice_index (row config.now) i }

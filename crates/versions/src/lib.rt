@@ -1,5 +1,5 @@
-//! The table as a machine of single steps: which steps are legal, what each actor knows after them, and the law that
-//! holds in every interleaving of them (Desnoyers et al. 2012, "User-Level Implementations of Read-Copy Update";
+//! The table as a machine of single steps: the steps that are legal, what each actor knows after them, and the law that
+//! is true in every interleaving of them (Desnoyers et al. 2012, "User-Level Implementations of Read-Copy Update";
 //! docs/TABLE.md).
 //!
 //! `every_trace` is the law. The crates that make the steps on shared memory cite the same definitions; `World` makes them
@@ -37,11 +37,18 @@ pub use step::{Entry, Event, Step};
 pub use view::{OperatorView, Stage, WorkerView};
 pub use world::{World, opening_words};
 
-/// Law: in each state that a legal trace leads to, each load of `current` gives the version published last, each worker has
-/// seen the versions up to its last load, a version that a worker holds stands in its row and its pages and may not be
-/// overwritten, no page is filled while a version that is not free names it, each fetch gives the published word, each scan
-/// tells a log of its worker, the words of the table are as the actors know them, and each step is on one word. No legal trace
-/// reclaims a version that a worker holds. It runs nothing.
+/// Law: in each state that a legal trace leads to,
+///
+/// - each load of `current` loads the version published last;
+/// - each worker has seen the versions up to its last load;
+/// - a version that a worker holds is in its row and its pages and may not be overwritten;
+/// - no page is filled while a version that is not free names it;
+/// - each fetch loads the published word;
+/// - each scan shows a log of its worker;
+/// - the words of the table are as the actors know them;
+/// - each step is on one word.
+///
+/// No legal trace reclaims a version that a worker holds. It runs nothing.
 pub fn every_trace()
     ensures pin_is_newest { InEveryTrace the_shape (LoadsNewest the_shape) }
     ensures seen_up_to_last_load { InEveryTrace the_shape (SeesUpToLastLoad the_shape) }
@@ -55,8 +62,8 @@ pub fn every_trace()
     ensures one_word { InEveryTrace the_shape (StepsOnOneWord the_shape) }
 {}
 
-/// Law: all of this holds too where configurations are stored in another form, whatever stands in rows and whatever in pages. It
-/// runs nothing.
+/// Law: all of this is also true if configurations are stored in another form, whatever is in rows and whatever in
+/// pages. It runs nothing.
 /// The reason: docs/INTERNALS.md, "Facts are of states".
 pub fn every_form()
     ensures pin_is_newest { (form : Form (List Group)) → InEveryTrace (stored_by form) (LoadsNewest (stored_by form)) }
@@ -71,8 +78,8 @@ pub fn every_form()
     ensures one_word { (form : Form (List Group)) → InEveryTrace (stored_by form) (StepsOnOneWord (stored_by form)) }
 {}
 
-/// Law: where a row and some pages hold a configuration, they tell each word of the row that has its image, and the row names
-/// just these pages. It runs nothing.
+/// Law: if a row and some pages contain a configuration, they decide each word of the row that has its image, and the
+/// row names just these pages. It runs nothing.
 pub fn pooled_form_stands()
     ensures { PooledFormStands }
 {}

@@ -1,4 +1,4 @@
-//! Which version named a page last, for each page of the pool.
+//! The last version that named a page, for each page of the pool.
 
 ghost use Rattle.std.specs.Prelude.{◌≡◌, ◌<◌, IfOk, length, replicate, slice_index, slice_set};
 ghost use Rattle.versions.specs.declared.layout.TheConstants.{PAGES};
@@ -8,7 +8,7 @@ use crate::layout::PAGES;
 use std::alloc::{AllocError, Allocator, Global};
 use std::marker::Model;
 
-/// For each page one more than the number of the last version that named it, 0 where none did.
+/// For each page one more than the number of the last version that named it, 0 if none did.
 #[derive(Drop)]
 pub struct PageUses<A: Allocator = Global> {
     uses: Vec<u64, A>,
@@ -26,7 +26,7 @@ impl<A: Allocator> Model for PageUses<A> {
 }
 
 impl<A: Allocator> PageUses<A> {
-    /// No page was named yet.
+    /// Returns the uses of a pool in which no page was named yet.
     pub(crate) fn none(alloc: A) -> Result<PageUses<A>, AllocError>
         ensures none { IfOk result (λ uses. uses ≡ replicate the_shape.pages 0) }
     {

@@ -1,4 +1,5 @@
-//! How far the actors of a world are: where each worker is, and the operator's book. It decides which steps are legal.
+//! The progress of the actors of a world: the stage of each worker, and the operator's book. It decides which steps are
+//! legal.
 
 ghost use Rattle.std.specs.Prelude.{◌≡◌, ◌+◌, ◌<◌, ◌≤◌, IfOk, MatchOption, length, slice_get};
 ghost use Rattle.std.specs.Option.{option_map};
@@ -18,7 +19,7 @@ use crate::view::Stage;
 use member_group::Config;
 use std::alloc::{AllocError, Allocator, Global};
 
-/// Where each worker is, and what the operator's log tells.
+/// The stage of each worker, and what follows from the operator's log.
 #[derive(Drop)]
 pub(crate) struct Progress<A: Allocator = Global> {
     pub(crate) stages: [Stage; WORKERS],
@@ -44,7 +45,7 @@ fn read_word(stage: Stage) -> u64
     }
 }
 
-// Where a worker is after a step of its own.
+// Returns the stage of a worker after a step of its own.
 fn next_stage(stage: Stage, step: Step, word: u64) -> Stage
     ensures { result ≡ view.next_stage ROWS stage step word }
 {
@@ -70,7 +71,7 @@ fn announced(version: u64) -> Option<u64>
     Some(version + 1)
 }
 
-// Which word a step loads or stores, `None` where no word makes it legal.
+// The word that a step loads or stores, `None` if no word makes it legal.
 impl<A: Allocator> Progress<A> {
     fn stage(&self, worker: usize) -> Option<Stage>
         ensures { result ≡ slice_get self.now.stages worker }
@@ -193,7 +194,7 @@ impl<A: Allocator> Progress<A> {
     }
 }
 
-// What a legal step changes.
+// The changes by a legal step.
 impl<A: Allocator> Progress<A> {
     pub(crate) fn at_start(alloc: A, count: usize) -> Result<Progress<A>, AllocError>
         requires { count ≤ PAGES }

@@ -11,7 +11,7 @@ pub enum Step {
     Peek { worker: usize },
     /// The worker stores the version of its last peek plus 1 in its own read word.
     Announce { worker: usize },
-    /// The worker loads `current`, and holds the version that it gives.
+    /// The worker loads `current`, and holds the version in it.
     Pin { worker: usize },
     /// The worker loads a word of the version that it holds: of its row, or of a part in one of its pages.
     Fetch { worker: usize, place: usize },
@@ -19,13 +19,13 @@ pub enum Step {
     Leave { worker: usize },
     /// The operator stores a word in a free row or a free page.
     Fill { place: usize, word: u64 },
-    /// The operator stores `current`: what stands in the row, and in the pages that it names, is the next version.
+    /// The operator stores `current`: the words in the row, and in the pages that it names, are the next version.
     Publish { row: usize },
     /// The operator loads a read word.
     Scan { place: usize },
 }
 
-/// What a log keeps of a step: the step, and the word that it loaded or stored.
+/// An entry of a log: a step, and the word that it loaded or stored.
 #[derive(Clone, Copy, Debug)]
 pub struct Entry {
     pub step: Step,

@@ -28,8 +28,8 @@ use std::marker::Model;
 
 /// A table, and the events that were made in it. Contracts see its words and what each actor knows.
 ///
-/// It decides by itself which steps are legal, and makes no other. It keeps every event, the proposed configurations among
-/// them, so its memory grows with each call that is answered by `Ok`.
+/// It decides by itself which steps are legal, and makes no other. It keeps every event, the proposed configurations
+/// among them, so its memory grows with each call that returns `Ok`.
 #[derive(Drop)]
 pub struct World<A: Allocator = Global> {
     opening: Config<A>,
@@ -87,8 +87,9 @@ fn push_programs<A: Allocator, B: Allocator>(
     Ok(())
 }
 
-/// Makes the words of a table that opens with a configuration, in its memory: it is version 0, in row 0 and the first pages, and
-/// all read words, other rows and other pages are 0. A row has room for a configuration that is not charged too much.
+/// Makes the words of a table that opens with a configuration, in the configuration's memory. The configuration is
+/// version 0, in row 0 and the first pages; all read words, other rows and other pages are 0. A row has room for a
+/// configuration that is not charged too much.
 pub fn opening_words<A: Allocator + Clone>(config: &Config<A>) -> Result<Vec<u64, A>, AllocError>
     requires room { HasRoom config.now }
     ensures words { IfOk result (λ words. words.items ≡ (opened_with config.now).words) }
@@ -102,7 +103,7 @@ pub fn opening_words<A: Allocator + Clone>(config: &Config<A>) -> Result<Vec<u64
     Ok(words)
 }
 
-// Where the last proposal is, after a step: a publication uses it up.
+// Returns the place of the last proposal after a step: a publication uses it up.
 fn proposal_after(step: Step, proposal: Option<usize>) -> Option<usize>
     ensures { result ≡ proposal_by step proposal }
 {
@@ -113,8 +114,8 @@ fn proposal_after(step: Step, proposal: Option<usize>) -> Option<usize>
 }
 
 impl<A: Allocator> World<A> {
-    /// The word at a place of the table, `None` from 655,425 on. Each world is what a legal trace from an opening of the table
-    /// leads to, so what `every_trace` says holds of it.
+    /// Returns the word at a place of the table, `None` from 655,425 on. A legal trace from an opening of the table
+    /// leads to each world, so what `every_trace` says is true of each world.
     pub fn word(&self, place: usize) -> Option<u64>
         ensures word { result ≡ slice_get self.now.words place }
         ensures reached { IsReached the_shape self.now }
@@ -139,7 +140,8 @@ impl<A: Allocator> World<A> {
 
     /// Makes the operator's proposal, which takes the place of an earlier one.
     ///
-    /// Fails with `TooBig` where the charge is above `CHARGE_LIMIT`, else with `OutOfMemory` where a growth was refused.
+    /// Fails with `TooBig` if the charge is above `CHARGE_LIMIT`, otherwise with `OutOfMemory` if an allocation is
+    /// refused.
     pub fn propose(&mut self, config: Config<A>) -> Result<(), StepFault>
         ensures proposed { OnOk result (self.new ≡ after_event the_shape self.old (Proposed config)) }
         ensures too_big { FailsWith TooBig result ↔ (CHARGE_LIMIT < charge_of config) }
@@ -156,10 +158,10 @@ impl<A: Allocator> World<A> {
         Ok(())
     }
 
-    /// Makes a step, and answers the word that it loads or stores.
+    /// Makes a step, and returns the word that it loads or stores.
     ///
-    /// Fails with `NotLegal` exactly where no word makes the step legal, also where a worker, row or place is out of range,
-    /// else with `OutOfMemory` where a growth was refused.
+    /// Fails with `NotLegal` if and only if no word makes the step legal, for example because a worker, row or place is
+    /// out of range; otherwise with `OutOfMemory` if an allocation is refused.
     pub fn step(&mut self, step: Step) -> Result<u64, StepFault>
         ensures step_exact { FailsWith NotLegal result ↔ ((word : ℕ) → IsLegalStep the_shape self.old step word → ⊥) }
         ensures step_answer { IfOk result (IsLegalStep the_shape self.old step) }
@@ -183,7 +185,8 @@ impl<A: Allocator + Clone> World<A> {
     /// Opens a table with a configuration, in its memory: version 0, in row 0 and the first pages. The other rows and pages are filled
     /// with zeros.
     ///
-    /// Fails with `TooBig` where the charge is above `CHARGE_LIMIT`, else with `OutOfMemory` where memory was refused.
+    /// Fails with `TooBig` if the charge is above `CHARGE_LIMIT`, otherwise with `OutOfMemory` if an allocation is
+    /// refused.
     pub fn new(config: Config<A>) -> Result<World<A>, StepFault>
         ensures opened { IfOk result (λ world. world ≡ opened_with config) }
         ensures too_big { FailsWith TooBig result ↔ (CHARGE_LIMIT < charge_of config) }

@@ -1,5 +1,5 @@
--- What the steps of the assembler read: lists of tokens, and the parts of a form from their front. Its laws are that it
--- reads exactly the grammar (`Spells_line`).
+-- The steps of the assembler: lists of tokens, and the parts of a form from their front. Its laws are that it reads exactly the
+-- grammar (`Spells_line`).
 use Rattle.std.specs.Prelude.{◌==◌, ◌+◌, ◌*◌, ◌^◌, ◌∷◌, ◌&&◌, Bool, List, None, Option, Some, [], codes, drop, false, if◌then◌else◌, length, map, nat_lt, option_and_then, slice_index, suc, true, unwrap_or, zero, ℕ}
 use Rattle.std.specs.Char.{digit_value, is_ascii_alphanumeric, is_ascii_digit}
 use Rattle.std.specs.List.{prefix_len, take_while}
@@ -28,7 +28,7 @@ o >>= f = option_and_then f o
 
 -- ---- numbers
 
--- the number that the digits write behind those of n, where it is below 2^32
+-- the number that the digits spell after those of n, if it is below 2^32
 abbrev pub next_value : ℕ → ℕ → ℕ → Option ℕ
 next_value radix n c =
     if nat_lt (digit_value c) radix
@@ -55,7 +55,7 @@ abbrev pub number_token : Option ℕ → Token
 number_token None = stray
 number_token (Some n) = number n
 
--- the token that a byte begins, and how many of the bytes behind it belong to it
+-- the token that a byte begins, and how many of the bytes after it belong to it
 abbrev pub token_at : ℕ → List ℕ → Token
 token_at b text =
     if begins_word b
@@ -121,7 +121,7 @@ closed_in tokens = do
 abbrev pub with_number : (ℕ → Form) → ℕ × List Token → Option (Form × List Token)
 with_number form k = Some (form k.0, k.1)
 
--- `k]` or `x+k]`, behind `[`
+-- `k]` or `x+k]`, after `[`
 abbrev pub indexed_or : List Token → Option (List Token) → Option (Form × List Token)
 indexed_or tokens None = closed_in tokens >>= with_number absolute_form
 indexed_or tokens (Some rest) = after_mark 43 rest >>= closed_in >>= with_number indexed_form
@@ -129,7 +129,7 @@ indexed_or tokens (Some rest) = after_mark 43 rest >>= closed_in >>= with_number
 unfoldable pub bracket_in : List Token → Option (Form × List Token)
 bracket_in tokens = indexed_or tokens (after_word (codes "x") tokens)
 
--- `*([k]&0xf)`, behind a number that has to be 4
+-- `*([k]&0xf)`, after a number that must be 4
 unfoldable pub header_in : ℕ → List Token → Option (Form × List Token)
 header_in four tokens = do
   star ← after_mark 42 tokens
@@ -141,7 +141,7 @@ header_in four tokens = do
   rest ← after_mark 41 mask.1
   if (four == 4) && (mask.0 == 15) then Some (header_form k.0, rest) else None
 
--- what follows a word: `[k]` behind `M`, else the word stands alone
+-- the rest after a word: `[k]` after `M`, else the word is alone
 abbrev pub cell_or : List ℕ → List Token → Option (List Token) → Option (Form × List Token)
 cell_or name tokens None = Some (name_form name, tokens)
 cell_or name tokens (Some rest) = if bytes_eq name (codes "M") then closed_in rest >>= with_number cell_form else None
@@ -270,7 +270,7 @@ is_end (token ∷ tokens) = false
 abbrev pub at_end : {A : Type 0} → List Token → A → Option A
 at_end tokens found = if is_end tokens then Some found else None
 
--- a conditional jump whose operand was read: the tokens hold its targets
+-- a conditional jump whose operand was read: the tokens have its targets
 unfoldable pub branch_behind : Test → Form → List Token → Option Statement
 branch_behind test form tokens = do
   right ← operand_of form
@@ -325,7 +325,7 @@ line_in _ = None
 unfoldable pub read_line : List ℕ → Option Line
 read_line bytes = line_in (tokens_of bytes)
 
--- the line that the bytes are, without anything on it where they are in no form
+-- the line that the bytes are, without anything on it if they are in no form
 abbrev pub line_at : List ℕ → Line
 line_at bytes = unwrap_or (read_line bytes) (line None None)
 

@@ -1,4 +1,4 @@
--- What a contract sees of tokens, operands, statements, lines and labels: their texts without where these lie.
+-- Tokens, operands, statements, lines and labels as contracts see them: their texts, without their places.
 use Rattle.std.specs.Prelude.{◌≡◌, ◌+◌, ◌-◌, ◌∷◌, ◌++◌, ◌⊎◌, Bool, Err, IsSome, List, None, Ok, Option, Result, Some, [], if◌then◌else◌, length, nat_le, ℕ}
 use Rattle.std.specs.Borrow.{Bor}
 use Rattle.std.specs.Char.{is_ascii_alphanumeric}
@@ -63,28 +63,28 @@ statement_of (statement.Branch test right on_true on_false) = branch test right 
 abbrev pub line_of : LentLine → Line
 line_of it = record { label = option_map (λ name. name.now) it.label; statement = option_map statement_of it.statement }
 
--- the line of a label and a mnemonic, whose operand is read from the bytes behind it
+-- the line of a label and a mnemonic, whose operand is read from the bytes after it
 abbrev pub line_of_heading : Option (Bor (List ℕ)) → Option (Bor (List ℕ) × Bor (List ℕ)) → Option Line
 line_of_heading label None = Some (line (option_map (λ name. name.now) label) None)
 line_of_heading label (Some (name, rest)) =
     option_map (λ statement. line (option_map (λ it. it.now) label) (Some statement)) (statement_in name.now (tokens_of rest.now))
 
--- the line of what was read of it so far, none where that is in no form
+-- the line of what was read of it so far, none if that is in no form
 abbrev pub line_begun : Option LentHeading → Option Line
 line_begun None = None
 line_begun (Some heading) = line_of_heading heading.label heading.mnemonic
 
--- what a line adds to the lines, nothing where it is in no form
+-- the addition of a line to the lines, nothing if it is in no form
 abbrev pub one_or_none : Option Line → List Line
 one_or_none None = []
 one_or_none (Some it) = it ∷ []
 
--- the lines of what is left of a text, none where its last line was taken
+-- the lines of what is left of a text, none if its last line was taken
 abbrev pub lines_left : Option (Bor (List ℕ)) → List (List ℕ)
 lines_left None = []
 lines_left (Some text) = lines_of text.now
 
--- how many bytes are left, and one more where a line is left
+-- how many bytes are left, and one more if a line is left
 abbrev pub left_len : Option (Bor (List ℕ)) → ℕ
 left_len None = 0
 left_len (Some text) = length text.now + 1
@@ -108,7 +108,7 @@ IsDefinedAgain places (Some name) n fault = (fault ≡ OutOfMemory) ⊎ (IsSome 
 abbrev pub UnlessMemory : AsmFault → Option AsmFault → Type 0
 UnlessMemory fault found = (fault ≡ OutOfMemory) ⊎ (found ≡ Some fault)
 
--- how far a place lies behind the instruction after the one at pc, of line n
+-- how far a place is after the instruction that follows the one at pc, of line n
 abbrev pub distance_to : ℕ → ℕ → Option ℕ → Result ℕ AsmFault
 distance_to pc n None = Err (UnknownLabel n)
 distance_to pc n (Some place) = if nat_le place pc then Err (BackwardJump n) else Ok (place - (pc + 1))

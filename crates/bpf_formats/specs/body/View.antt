@@ -1,4 +1,4 @@
--- What a contract sees of a form, of what is left of a text, and of one item.
+-- A form, the rest of a text, and one item, as contracts see them.
 use Rattle.std.specs.Prelude.{◌≡◌, ◌≢◌, ◌+◌, ◌∷◌, ◌++◌, ◌⊎◌, List, None, Option, Some, [], length, ℕ}
 use Rattle.std.specs.Borrow.{Bor}
 use Rattle.bpf_formats.specs.declared.fault.FormatFault.{FormatFault}
@@ -17,12 +17,12 @@ abbrev pub Spells : Form → List ℕ → ℕ → Type 0
 Spells Decimal item word = SpellsFields item word
 Spells Hexadecimal item word = SpellsDigits item word
 
--- the items of what is left of a text, none where its last item was taken
+-- the items of what is left of a text, none if its last item was taken
 abbrev pub items_left : Option (Bor (List ℕ)) → List (List ℕ)
 items_left None = []
 items_left (Some text) = items_of text.now
 
--- how many bytes are left, and one more where an item is left
+-- how many bytes are left, and one more if an item is left
 abbrev pub left_len : Option (Bor (List ℕ)) → ℕ
 left_len None = 0
 left_len (Some text) = length text.now + 1

@@ -1,4 +1,4 @@
--- What the decoder finds in the fields of a word, and what the tests make of it.
+-- The fields of a word as the decoder finds them, and the result of its tests.
 use Rattle.std.specs.Prelude.{◌==◌, if◌then◌else◌, Err, None, Ok, Option, Result, Some, ℕ}
 use Rattle.bpf_insn.specs.declared.instruction.Insn.{Insn}
 use Rattle.bpf_insn.specs.declared.instruction.WordFault.{WordFault}

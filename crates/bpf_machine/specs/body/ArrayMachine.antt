@@ -1,5 +1,4 @@
--- What the code of one instruction does: its scratch memory is a whole array, without a mark of the cells that were
--- stored.
+-- The effect of one instruction's code: its scratch memory is a whole array, without a mark of the cells that were stored.
 use Rattle.std.specs.Prelude.{◌+◌, ◌-◌, ◌%◌, ◌^◌, if◌then◌else◌, List, None, Option, Some, length, slice_index, slice_set, ℕ}
 use Rattle.bpf_insn.specs.declared.instruction.Insn.{Insn}
 use Rattle.bpf_insn.specs.declared.instruction.Insn.TheVariants.{Alu, CopyFromX, CopyToX, Jump, JumpIf, LoadAbsolute, LoadCell, LoadConstant, LoadIndexed, LoadLength, LoadXCell, LoadXConstant, LoadXHeader, LoadXLength, Negate, ReturnA, ReturnConstant, Store, StoreX}

@@ -1,4 +1,4 @@
--- The effect that the code of one instruction tells, with the machine that it leaves.
+-- The effect that the code of one instruction returns, with the machine that it leaves.
 use Rattle.std.specs.Prelude.{List, ℕ}
 use Rattle.bpf_machine.specs.declared.execute.Next.{Next}
 use Rattle.bpf_machine.specs.declared.execute.Next.TheVariants.{End, GoOn, Skip}

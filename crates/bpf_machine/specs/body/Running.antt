@@ -1,4 +1,4 @@
--- Where a run of the code stands: what it still has to do means what the whole program means.
+-- The state of a run of the code: the rest of the run means what the whole program means.
 use Rattle.std.specs.Prelude.{◌≡◌, ◌∷◌, ◌++◌, ◌+◌, ◌-◌, ◌<◌, ◌≤◌, IsSome, List, Some, [], drop, length, slice_index, ℕ}
 use Rattle.bpf_verify.specs.Path.{IsPath, IsStoredOn}
 use Rattle.bpf_machine.specs.Meaning.{Cells, Run, no_cells, run_after}
@@ -22,7 +22,7 @@ pub record IsSafe (program : List ℕ) (pc : ℕ) (cells : Cells) : Type 0 where
   pub path : IsPath program (earlier ++ pc ∷ [])
   pub valued : (cell : ℕ) → IsStoredOn program earlier cell → IsSome (cells cell)
 
--- what remains from pc on means what the whole means, and of the places before it those that no jump passed over were met
+-- the rest from pc on means what the whole means, and the places before it that no jump passed over were met
 pub record IsRunning (program packet : List ℕ) (pc passed_over a x : ℕ) (numbers : List ℕ) : Type 0 where
   pub cells : Cells
   pub hold : Holds cells numbers

@@ -1,5 +1,4 @@
--- What the pass over the places knows of the place that it is at, and how it keeps sets of scratch cells: as numbers, of
--- which bit k tells of cell k.
+-- The knowledge of the pass about the place that it is at, and its sets of scratch cells: numbers in which bit k is for cell k.
 use Rattle.std.specs.Prelude.{◌≡◌, ◌∷◌, ◌<◌, ◌^◌, ◌↔◌, Bool, IsTrue, List, None, Ok, Option, Some, [], bit_and, bit_or, length, slice_index, slice_set, ℕ}
 use Rattle.std.specs.Int.{bit_at}
 use Rattle.bpf_insn.specs.declared.instruction.Insn.{Insn}
@@ -55,7 +54,7 @@ cells_after (Store k) before = bit_or before (2 ^ k)
 cells_after (StoreX k) before = bit_or before (2 ^ k)
 cells_after _ before = before
 
--- the sets of the places, once a path with the set after comes to one of them, or to each of several
+-- the sets of the places, once a path with the set after reaches one of them, or each of several
 abbrev pub joined : ℕ → List ℕ → ℕ → List ℕ
 joined after stored to = slice_set stored to (bit_and (slice_index stored to) after)
 

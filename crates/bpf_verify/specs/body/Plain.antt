@@ -1,4 +1,4 @@
--- What the pass knows of words that it tells by their codes.
+-- The knowledge of the pass about words that it classifies by their codes.
 use Rattle.std.specs.Prelude.{◌≡◌, ◌+◌, ◌∷◌, List, None, Ok, [], slice_index_or, ℕ}
 use Rattle.bpf_insn.specs.declared.instruction.Insn.{Insn}
 use Rattle.bpf_insn.specs.declared.instruction.Insn.TheVariants.{JumpIf}
@@ -27,11 +27,11 @@ pub record GoesOn (insn : Insn) (before after : ℕ) : Type 0 where
 abbrev pub IsPlain : ℕ → ℕ → ℕ → Type 0
 IsPlain word before after = (insn : Insn) × (instruction_of word ≡ Ok insn) × GoesOn insn before after
 
--- what the table of plain words has for a code
+-- the entry of a code in the table of plain words
 abbrev pub plain_of : ℕ → Plain
 plain_of code = slice_index_or PLAIN code NONE
 
--- what the conditional jumps use, with a constant and with X
+-- the fields that conditional jumps use, with a constant and with X
 abbrev pub uses_constant_test : Test → Uses
 uses_constant_test test = uses_all (λ jt jf k. JumpIf test (K k) (offsets jt jf))
 

@@ -1,4 +1,4 @@
--- How the words and numbers of a text are told apart.
+-- How the words and numbers of a text are separated.
 use Rattle.std.specs.Prelude.{◌≡◌, ◌≢◌, ◌<◌, ◌≤◌, ◌∷◌, List, [], length, slice_index, ℕ}
 
 -- a space follows, or nothing

@@ -1,4 +1,4 @@
--- What `first` does with the table: which configurations it publishes, and what is run in a section of each.
+-- The use that `first` makes of the table: which configurations it publishes, and what is run in a section of each.
 use Rattle.std.specs.Prelude.{◌≡◌, ◌++◌, ◌∷◌, List, None, Option, Some, [], length, min, suc, ℕ}
 use Rattle.bpf_machine.specs.declared.Outcome.{Outcome}
 use Rattle.bpf_machine.specs.Meaning.{Ret, cost_of, ending_of}

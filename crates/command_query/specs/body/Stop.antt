@@ -11,7 +11,7 @@ use Rattle.command_query.specs.declared.format.InputFormat.{InputFormat}
 use Rattle.command_query.specs.declared.stop.Stop.{Stop}
 use Rattle.command_query.specs.declared.stop.Stop.TheVariants.{Failed, Misformed, Refused}
 
--- a fault refuses, but want of memory fails
+-- a fault refuses, but lack of memory fails
 abbrev pub stop_for : Option Reason → Stop
 stop_for None = Failed OutOfMemory
 stop_for (Some reason) = Refused reason
@@ -24,13 +24,13 @@ stop_of_format (format_fault.Syntax line) = Misformed (format_fault.Syntax line)
 stop_of_format format_fault.Count = Misformed format_fault.Count
 stop_of_format format_fault.OutOfMemory = Failed OutOfMemory
 
--- a command stopped by a refusal of this kind, or for want of memory
+-- a command stopped by a refusal of this kind, or for lack of memory
 abbrev pub IsStopBy : (Reason → Type 0) → Stop → Type 0
 IsStopBy refuses (Refused reason) = refuses reason
 IsStopBy refuses (Misformed fault) = ⊥
 IsStopBy refuses (Failed failure) = failure ≡ OutOfMemory
 
--- a command stopped by what is wrong with the text of a program, or for want of memory
+-- a command stopped by the fault of a program's text, or for lack of memory
 abbrev pub IsStopByProgram : InputFormat → List ℕ → Stop → Type 0
 IsStopByProgram format text (Refused reason) = IsRefusalOfProgram format text reason
 IsStopByProgram format text (Misformed fault) = IsFormatFault format text fault

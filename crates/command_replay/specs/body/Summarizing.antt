@@ -5,7 +5,7 @@ use Rattle.command_line.specs.Ending.{AppendsBeginning}
 use Rattle.control_summary.specs.Summary.{IsSummaryOf}
 use Rattle.command_replay.specs.Replaying.{AreRepliesTo}
 
--- the input was read to its end, and each of its requests was answered
+-- the input was read to its end, and each of its requests has its reply
 abbrev pub WasReplayed : Option (List ℕ) → Type 0
 WasReplayed known = (replies : List ℕ) × AreRepliesTo known replies
 

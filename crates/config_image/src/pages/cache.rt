@@ -11,19 +11,19 @@ ghost use Rattle.config_image.specs.Cache.{Holds, IsCached, slot_of};
 use std::alloc::{AllocError, Global};
 use std::marker::Model;
 
-// The number of slots. Places that are less than 1023 apart have slots of their own (`slots_apart`).
+// The number of slots. Places that are less than 1023 apart have different slots (`slots_apart`).
 const SLOTS: usize = 1024;
 
-/// A run of words of an image, and where they stand.
+/// A run of words of an image, and their places in a table.
 #[derive(Clone, Copy, Debug, PartialEq, Eq)]
 pub struct Extent {
     /// The number of the version whose image has the words.
     pub version: u64,
     /// The place of the first word in the image, counted from 0.
     pub at: usize,
-    /// The place in the image behind the last word.
+    /// The place in the image after the last word.
     pub end: usize,
-    /// How much further each of the words stands in the table than in the image.
+    /// The difference between the place of each word in the table and its place in the image.
     pub shift: usize,
 }
 
@@ -60,7 +60,7 @@ fn slot(place: usize) -> usize
 }
 
 impl ExtentCache {
-    /// An empty cache of version 0.
+    /// Makes an empty cache of version 0.
     pub fn new(alloc: Global) -> Result<ExtentCache, AllocError>
         ensures version { IfOk result (λ cache. cache.version ≡ 0) }
         ensures no_form { IfOk result (λ cache. cache.form ≡ 0) }
@@ -80,14 +80,14 @@ impl ExtentCache {
         })
     }
 
-    /// The version whose extents it has.
+    /// Returns the version whose extents the cache has.
     pub fn version(&self) -> u64
         ensures version { result ≡ self.now.version }
     {
         self.version
     }
 
-    /// The first word of the version's row, or 0 if the cache has none.
+    /// Returns the first word of the version's row, or 0 if the cache has none.
     #[inline(always)]
     pub fn form(&self) -> u64
         ensures form { result ≡ self.now.form }
@@ -102,8 +102,8 @@ impl ExtentCache {
         self.form = form;
     }
 
-    /// Looks up a place: a hit is an extent in its slot that is of the cache's version and has the place. It was inserted for this place,
-    /// or for another one of the slot.
+    /// Looks up a place: a hit is an extent in its slot that is of the cache's version and has the place. The extent was inserted
+    /// for this place, or for another one of the slot.
     #[inline(always)]
     pub fn lookup(&self, place: usize) -> Option<Extent>
         ensures kept { IfSome result (λ extent. IsCached self.now extent × Holds extent place) }

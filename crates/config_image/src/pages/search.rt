@@ -1,8 +1,8 @@
-//! The search for the part that holds a place of an image, among the page table entries of a row.
+//! The search for the part that contains a place of an image, among the page table entries of a row.
 //!
 //! A part is 1 to 16 words of an image, in a page of the pool. A row has the entries one after the other, their starts rising, and is
-//! read one entry at a time. So a `Search` is asked which entry to read next, and the caller reads it and passes it on. Of 2047 entries
-//! it asks for at most eleven.
+//! read one entry at a time. So a `Search` is asked which entry to read next, and the caller reads it and passes it on. Among 2047
+//! entries it asks for at most eleven.
 
 ghost use Rattle.std.specs.Prelude.{◌≡◌, ◌≢◌, ◌<◌, ◌≤◌, ◌^◌, ◌↔◌, IfSome, IsSome, List, Some, length, slice_get, ℕ};
 ghost use Rattle.config_image.specs.declared.TheConstants.{PAGE_LIMIT, READ_LIMIT};
@@ -44,7 +44,7 @@ pub struct Search {
 impl Search {
     ghost use Rattle.config_image.specs.Search.{HoldsPlace, IsOpen, IsSearchOf, IsWithin, asked, reads_left, unread};
 
-    /// Begins a search among `count` entries, of parts that end before `end`, for the part that holds a place.
+    /// Begins a search among `count` entries, of parts that end before `end`, for the part that contains a place.
     ///
     /// `end` and `place` count the image's words from 0.
     pub fn new(count: usize, end: usize, place: usize) -> Search
@@ -67,7 +67,7 @@ impl Search {
         }
     }
 
-    /// The index of the entry to read next, or `None` if the part is found.
+    /// Returns the index of the entry to read next, or `None` if the part is found.
     pub fn ask(&self) -> Option<usize>
         ensures asks_exactly { IsSome result ↔ (0 < unread self.now) }
         ensures asked { IfSome result (λ index. index ≡ asked self.now) }
@@ -98,7 +98,7 @@ impl Search {
         }
     }
 
-    /// The part that holds the place, if the starts of the entries rise.
+    /// Returns the part that contains the place, if the starts of the entries rise.
     pub fn found(&self) -> FoundPart
         requires finished { unread self.now ≡ 0 }
         requires begun { (entries : List ℕ) × (end : ℕ) × (place : ℕ) × IsSearchOf entries end place self.now }

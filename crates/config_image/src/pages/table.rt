@@ -4,8 +4,8 @@ ghost use Rattle.std.specs.Prelude.{◌≡◌, ◌+◌, ◌*◌, ◌<◌, ◌≤
 ghost use Rattle.config_image.specs.PageTable.{entry_word, header_begin, header_count, header_len, header_word, page_of, start_of};
 ghost use Rattle.config_image.specs.declared.word.TheConstants.{PLACE_LIMIT};
 
-/// The first word of a row: the image's length from bit 32 on, where its programs begin in bits 16 to 31, and the number of its page
-/// table entries in the low 16 bits.
+/// The first word of a row: the image's length from bit 32 on, the start of its programs in bits 16 to 31, and the number of its
+/// page table entries in the low 16 bits.
 #[derive(Clone, Copy, Debug, PartialEq, Eq)]
 pub struct RowHeader(pub u64);
 
@@ -19,7 +19,7 @@ impl RowHeader {
         RowHeader(len as u64 * (1 << 32) + programs_at as u64 * 65536 + entries as u64)
     }
 
-    /// The length of the image.
+    /// Returns the length of the image.
     #[inline(always)]
     pub fn image_len(self) -> usize
         ensures { result ≡ header_len self.0 }
@@ -27,7 +27,7 @@ impl RowHeader {
         (self.0 >> 32) as usize
     }
 
-    /// The place of the page table in the row, which is also the place of the programs in the image.
+    /// Returns the place of the page table in the row, which is also the place of the programs in the image.
     #[inline(always)]
     pub fn programs_at(self) -> usize
         ensures { result ≡ header_begin self.0 }
@@ -35,7 +35,7 @@ impl RowHeader {
         (self.0 >> 16 & 0xffff) as usize
     }
 
-    /// The number of page table entries.
+    /// Returns the number of page table entries.
     #[inline(always)]
     pub fn entries(self) -> usize
         ensures { result ≡ header_count self.0 }
@@ -44,12 +44,12 @@ impl RowHeader {
     }
 }
 
-/// The page table entry of a part: where the part starts in the image, and in the low 16 bits its page.
+/// The page table entry of a part: the part's start in the image, and its page in the low 16 bits.
 #[derive(Clone, Copy, Debug, PartialEq, Eq)]
 pub struct PageEntry(pub u64);
 
 impl PageEntry {
-    /// The entry of a part that starts at a place of the image and is in a page.
+    /// Makes the entry of a part that starts at a place of the image and is in a page.
     #[inline(always)]
     pub fn new(start: usize, page: u32) -> PageEntry
         requires { entry_word start page < 2 ^ 64 }
@@ -58,7 +58,7 @@ impl PageEntry {
         PageEntry(start as u64 * 65536 + u64::from(page))
     }
 
-    /// The place in the image of the part's first word, counted from 0.
+    /// Returns the place in the image of the part's first word, counted from 0.
     #[inline(always)]
     pub fn start(self) -> usize
         ensures start { result ≡ start_of self.0 }
@@ -67,7 +67,7 @@ impl PageEntry {
         (self.0 >> 16) as usize
     }
 
-    /// The number of the part's page, counted from 0.
+    /// Returns the number of the part's page, counted from 0.
     #[inline(always)]
     pub fn page(self) -> usize
         ensures page { result ≡ page_of self.0 }

@@ -1,4 +1,4 @@
--- What is held of the request of a script that is being read.
+-- The bytes that are kept of the request of a script that is being read.
 use Rattle.std.specs.Prelude.{◌≡◌, ◌+◌, ◌-◌, ◌<◌, ◌++◌, ◌∷◌, ◌⊎◌, Bool, List, [], false, length, take, true, ℕ}
 use Rattle.std.specs.List.{All}
 use Rattle.ipv4_fields.specs.Cut.{Lacks}
@@ -18,12 +18,12 @@ pub data IsWithoutLf (text : List ℕ) : List ℕ → Type 0 where
   had_lf : (front : List ℕ) → text ≡ front ++ 10 ∷ [] → IsWithoutLf text front
   had_none : ((front : List ℕ) → ¬ (text ≡ front ++ 10 ∷ [])) → IsWithoutLf text text
 
--- so many bytes of a text are held at most
+-- at most so many bytes of a text are kept
 pub record IsHeldUpTo (most : ℕ) (text : List ℕ) (held : Held) : Type 0 where
   pub bytes : held.bytes.items ≡ take most text
   pub room : held.room ≡ most - length text
 
--- how many bytes of a block are held at most
+-- how many bytes of a block are kept at most
 abbrev pub block_room : Head → ℕ
 block_room head = length (head_text head) + BLOCK_ROOM
 

@@ -6,7 +6,7 @@ use Rattle.control.specs.PacketLine.{IsPacketLine}
 use Rattle.control.specs.declared.packet_line.PacketSize.{PacketSize}
 use Rattle.control.specs.declared.packet_line.PacketSize.TheVariants.{TooLong, Whole}
 
--- what was read of the line is what its digits say, and the buffer holds the packet
+-- the line was read as its digits say, and the buffer has the packet
 abbrev pub IsReadInto : List ℕ → List ℕ → PacketSize → Type 0
 IsReadInto line packet Whole = (digits : List ℕ) × (length line ≤ LINE_LIMIT) × IsPacketLine line digits × SpellsPacket digits packet
 IsReadInto line packet TooLong = (digits : List ℕ) × (length line ≤ LINE_LIMIT) × IsPacketLine line digits × SpellsTooMuch digits

@@ -1,4 +1,4 @@
--- How an operator and its workers stand between the lines of a script: each worker is outside, and met the operator since the
+-- The state of an operator and its workers between the lines of a script: each worker is outside, and met the operator since the
 -- last publication.
 use Rattle.std.specs.Prelude.{◌≡◌, ◌<◌, ◌≤◌, List, Some, length, slice_get, suc, ℕ}
 use Rattle.atomic_table.specs.Seated.{TableId}

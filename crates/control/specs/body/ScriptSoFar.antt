@@ -1,4 +1,4 @@
--- How far a script was read and answered, and what each piece of it adds.
+-- How far a script was read and its requests were replied to, and what each piece of it adds.
 use Rattle.std.specs.Prelude.{◌≡◌, ◌++◌, ◌∷◌, Err, List, Ok, Option, Result, [], suc, ℕ}
 use Rattle.std.specs.Io.KnownBytes.{Appends}
 use Rattle.control.specs.declared.fault.ReplayFault.{ReplayFault}
@@ -13,8 +13,8 @@ use Rattle.control.specs.Script.{AreAnswered, IsScriptText, RepliesTo, Standing}
 abbrev pub IsReadyAt : Script → Standing → Type 0
 IsReadyAt script now = IsReady script.switch.operator script.switch.workers.items now
 
--- the whole requests that were read are answered, and of the part of the next one enough is held; the output took the replies after
--- `start`, except for those that wait
+-- the whole requests that were read have their replies, and enough of the part of the next one is kept; the output took the replies
+-- after `start`, except for those that wait
 pub record IsAt (read : List ℕ) (start : Option (List ℕ)) (script : Script) (taken : Option (List ℕ)) (waiting : List ℕ) : Type 0 where
   pub lines : List ℕ
   pub part : List ℕ
@@ -26,7 +26,7 @@ pub record IsAt (read : List ℕ) (start : Option (List ℕ)) (script : Script) 
   pub ready : IsReadyAt script now
   pub written : WritesAllBut waiting start taken text
 
--- of the replies to requests that were read a beginning was written; the failures of the output are so many then
+-- a beginning of the replies to requests that were read was written; the failures of the output are so many then
 pub record IsCutShort (failures : ℕ) (read : List ℕ) (start taken : Option (List ℕ)) : Type 0 where
   pub lines : List ℕ
   pub rest : List ℕ
@@ -49,7 +49,7 @@ pub record IsStopped (read : List ℕ) (start taken : Option (List ℕ)) (waitin
   pub answered : AreAnswered lines text last
   pub written : WritesAllBut waiting start taken text
 
--- what a piece of a script adds
+-- the effect of a piece of a script
 abbrev pub Advances : ℕ → List ℕ → Script → Script → Option (List ℕ) → List ℕ → Option (List ℕ) → List ℕ → Result (Unit {0}) ReplayFault → Type 0
 Advances failures bytes script script' taken waiting taken' waiting' (Ok done) =
     (read : List ℕ) (start : Option (List ℕ)) → IsAt read start script taken waiting → IsAt (read ++ bytes) start script' taken' waiting'
@@ -65,7 +65,7 @@ pub record IsWritten (read : List ℕ) (start taken : Option (List ℕ)) : Type 
   pub is_text : IsScriptText read text
   pub written : Appends start taken text
 
--- of the text of a whole script a beginning was
+-- a beginning of the text of a whole script was written
 pub record IsCutAtEnd (failures : ℕ) (read : List ℕ) (start taken : Option (List ℕ)) : Type 0 where
   pub text : List ℕ
   pub told : List ℕ
@@ -74,7 +74,7 @@ pub record IsCutAtEnd (failures : ℕ) (read : List ℕ) (start taken : Option (
   pub beginning : text ≡ told ++ untold
   pub written : WasWritten failures start taken told
 
--- what the end of a script adds
+-- the effect of the end of a script
 abbrev pub Ends : ℕ → Script → Option (List ℕ) → Option (List ℕ) → Result (Unit {0}) ReplayFault → Type 0
 Ends failures script taken taken' (Ok done) =
     (read : List ℕ) (start : Option (List ℕ)) → IsAt read start script taken [] → IsWritten read start taken'
@@ -92,7 +92,7 @@ pub record IsReplied (now : Standing) (request : List ℕ) (script' : Script) (t
   pub ready : IsReadyAt script' next
   pub written : WritesAllBut waiting' taken taken' (waiting ++ (reply ++ 10 ∷ []))
 
--- of what waits and its reply a beginning was written
+-- a beginning of what waits and its reply was written
 pub record IsReplyCut (failures : ℕ) (now : Standing) (request : List ℕ) (taken : Option (List ℕ)) (waiting : List ℕ) (taken' : Option (List ℕ)) : Type 0 where
   pub reply : List ℕ
   pub next : Standing
@@ -102,7 +102,7 @@ pub record IsReplyCut (failures : ℕ) (now : Standing) (request : List ℕ) (ta
   pub beginning : waiting ++ (reply ++ 10 ∷ []) ≡ told ++ untold
   pub written : WasWritten failures taken taken' told
 
--- what answering the request that is held does
+-- the effect of replying to the request that is kept
 abbrev pub AnswersHeld : ℕ → Script → Script → Option (List ℕ) → List ℕ → Option (List ℕ) → List ℕ → Result (Unit {0}) ReplayFault → Type 0
 AnswersHeld failures script script' taken waiting taken' waiting' (Ok done) =
     Holds [] script'.held × ((now : Standing) → IsReadyAt script now → IsReplied now script.held.bytes.items script' taken waiting taken' waiting')
@@ -111,7 +111,7 @@ AnswersHeld failures script script' taken waiting taken' waiting' (Err WriteFail
 AnswersHeld failures script script' taken waiting taken' waiting' (Err OutOfMemory) = (taken' ≡ taken) × (waiting' ≡ waiting)
 AnswersHeld failures script script' taken waiting taken' waiting' (Err ReadFailed) = ⊥
 
--- the output failed once where the fault is its own, and else not
+-- the output failed once if the fault is its own, and else not
 abbrev pub OutputFailedBy : Result (Unit {0}) ReplayFault → ℕ → ℕ → Type 0
 OutputFailedBy (Ok done) before after = after ≡ before
 OutputFailedBy (Err WriteFailed) before after = after ≡ suc before

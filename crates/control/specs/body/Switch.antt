@@ -1,4 +1,4 @@
--- What a worker of a switch makes of a packet.
+-- The judging of a packet by a worker of a switch.
 use Rattle.std.specs.Prelude.{◌≡◌, List, ℕ}
 use Rattle.dispatch.specs.Verdict.{value_of, verdict}
 use Rattle.read_section.specs.Section.{HoldsLastSeen, IsWholeSection, held_version}

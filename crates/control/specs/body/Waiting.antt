@@ -12,7 +12,7 @@ pub record WritesAllBut (waiting : List ℕ) (before after : Option (List ℕ)) 
   pub is : text ≡ told ++ waiting
   pub written : Appends before after told
 
--- what waits was written, or a beginning of it where that failed; where a write had failed before, nothing was done
+-- the bytes that wait were written, or a beginning of them if that failed; if a write had failed before, nothing was done
 abbrev pub WritesWaiting : Result (Unit {0}) ReplayFault → List ℕ → OutputValue → OutputValue → Result (Unit {0}) ReplayFault → Type 0
 WritesWaiting (Err WriteFailed) waiting before after result = (result ≡ Err WriteFailed) × (after ≡ before)
 WritesWaiting answered waiting before after (Err WriteFailed) = IsWrittenInPart after.failures before.taken after.taken waiting

@@ -1,4 +1,4 @@
--- What is written of a text where a write fails.
+-- The part of a text that is written if a write fails.
 use Rattle.std.specs.Prelude.{◌≡◌, ◌++◌, List, Option, ℕ}
 use Rattle.control.specs.Replay.{WasWritten}
 

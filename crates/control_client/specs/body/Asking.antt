@@ -1,4 +1,4 @@
--- What comes while a line waits for its answer.
+-- The replies that come while a line waits for its own.
 use Rattle.std.specs.Prelude.{◌≡◌, ◌<◌, ◌++◌, ◌∷◌, List, Option, [], length, ℕ}
 use Rattle.std.specs.List.{All}
 use Rattle.control_client.specs.declared.device.Peer.{Peer}

@@ -4,7 +4,7 @@ use Rattle.control_line.specs.Answer.{NumberedLine}
 use Rattle.control_line.specs.Block.{after_line_feeds}
 use Rattle.control_client.specs.Lines.{numbers_of, texts_of}
 
--- what lines were added to
+-- the text and the numbers that lines were added to
 pub record Collected : Type 0 where
   pub text : List ℕ
   pub numbers : List ℕ

@@ -1,4 +1,4 @@
--- Lines that each stand after an LF, counted.
+-- Lines that each come after an LF, counted.
 use Rattle.std.specs.Prelude.{◌+◌, ◌==◌, ◌∷◌, List, [], if◌then◌else◌, ℕ}
 
 abbrev pub feeds_in : List ℕ → ℕ

@@ -1,4 +1,4 @@
--- What replies with counts say, by their fields.
+-- Replies with counts, by their fields.
 use Rattle.std.specs.Prelude.{◌∷◌, List, [], codes, decimal, ℕ}
 use Rattle.counter_text.specs.declared.counters.GroupCount.{GroupCount}
 use Rattle.counter_text.specs.declared.counters.MemberCount.{MemberCount}

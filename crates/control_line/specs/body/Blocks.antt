@@ -1,4 +1,4 @@
--- What the steps of a block leave: lines, and the configurations that they make.
+-- The results of a block's steps: lines, and the configurations that they make.
 use Rattle.std.specs.Prelude.{◌≡◌, ◌++◌, ◌∷◌, Err, List, Ok, Option, Result, Some, [], ℕ}
 use Rattle.std.specs.List.{All}
 use Rattle.ipv4_fields.specs.Cut.{Lacks}

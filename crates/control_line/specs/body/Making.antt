@@ -1,4 +1,4 @@
--- What the steps of answering a line leave: a program, a command, the next configuration, an answer.
+-- The results of the steps from a line to its answer: a program, a command, the next configuration, an answer.
 use Rattle.std.specs.Prelude.{◌≡◌, ◌<◌, ◌^◌, Err, List, None, Ok, Option, Result, Some, length}
 use Rattle.bpf_verify.specs.Program.{ProgramValue}
 use Rattle.config_image.specs.Image.{Group}
@@ -27,7 +27,7 @@ use Rattle.filter_program.specs.declared.fault.TextFault.{TextFault}
 abbrev pub IsMade : Source → ProgramValue → Type 0
 IsMade source program = (both : Agreeing) × IsLoadedBy IsProgramFor source both.loaded × (program ≡ both.program)
 
--- a refusal of a text, or want of memory
+-- a refusal of a text, or lack of memory
 abbrev pub fault_of_line : Option Reason → LineFault
 fault_of_line None = OutOfMemory
 fault_of_line (Some why) = Refused why
@@ -35,7 +35,7 @@ fault_of_line (Some why) = Refused why
 abbrev pub line_fault_of : TextFault → LineFault
 line_fault_of fault = fault_of_line (reason_of_text fault)
 
--- a text is refused for what is wrong with it; want of memory may come in its place
+-- a text is refused for its fault; lack of memory may come in its place
 abbrev pub IsLineFaultOf : Source → LineFault → Type 0
 IsLineFaultOf source (Refused why) = IsRefusalOfText source why
 IsLineFaultOf source OutOfMemory = Unit {0}
@@ -80,7 +80,7 @@ pub record IsPublication (next : List Group) (before after : OperatorValue) (ans
   pub text : (config made : TextConfig) → AgreesNow config before.view → Agrees made next →
       (left : TextConfig) × PublishesText (number_after before.view.log) config made answer left × AgreesNow left after.view
 
--- a change is answered, for each configuration that agrees with the operator's
+-- a change has its answer, for each configuration that agrees with the operator's
 pub record IsChanged (command : Command Source) (before after : OperatorValue) (answer : LineAnswer) : Type 0 where
   pub steps : Does answer before after
   pub text : (config : TextConfig) → AgreesNow config before.view →
@@ -93,7 +93,7 @@ IsShown view given =
     × IsCurrent view config
     × (given ≡ answer.Shown (number_after view.log) (length config) (members_of config) (charge_of config))
 
--- an answer, or a refusal as one, or want of memory with nothing done
+-- an answer, or a refusal as one, or lack of memory with nothing done
 abbrev pub IsOutcome : (OperatorValue → OperatorValue → LineAnswer → Type 0) → OperatorValue → OperatorValue → Result LineAnswer LineFault → Type 0
 IsOutcome IsGiven before after (Ok given) = IsGiven before after given
 IsOutcome IsGiven before after (Err (Refused why)) = IsGiven before after (answer.Refused why)

@@ -1,4 +1,4 @@
--- What the steps of reading a line give.
+-- The results of the steps of reading a line.
 use Rattle.std.specs.Prelude.{◌≢◌, ◌∷◌, List, MatchOption, None, Option, Some, [], codes, ℕ}
 use Rattle.ipv4_fields.specs.Cut.{Lacks}
 use Rattle.member_group.specs.Over.{command_over}
@@ -19,7 +19,7 @@ program_fields None = codes "none" ∷ []
 program_fields (Some (assembly text)) = codes "asm" ∷ text ∷ []
 program_fields (Some (expression text)) = codes "expr" ∷ text ∷ []
 
--- what a contract sees of a request: the texts without where they lie
+-- a request as contracts see it: the texts without their places
 abbrev pub source_of : LentText → Source
 source_of (lent.Assembly text) = assembly text.now
 source_of (lent.Expression text) = expression text.now
@@ -44,7 +44,7 @@ pub record IsMemberWord (word : List ℕ) : Type 0 where
   pub not_remove : word ≢ codes "remove"
   pub not_selector : word ≢ codes "selector"
 
--- what a line asks for, or nothing where it is no line of the table
+-- the request of a line, or nothing if it is no line of the table
 abbrev pub IsRead : List ℕ → Option LentRequest → Type 0
 IsRead line result =
     MatchOption result ((request : Request) → Spells line request → ⊥) (λ request. Spells line (request_of request))

@@ -1,4 +1,4 @@
--- What the steps of reading a rules file leave.
+-- The results of the steps of reading a rules file.
 use Rattle.std.specs.Prelude.{◌≡◌, ◌<◌, ◌∷◌, List, None, Option, Some, [], false, length, true, ℕ}
 use Rattle.config_image.specs.Image.{Group}
 use Rattle.filter_program.specs.Program.{IsProgramFor}

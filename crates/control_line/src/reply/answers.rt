@@ -32,7 +32,7 @@ impl Reply {
         }
     }
 
-    /// The reply that refuses for this reason.
+    /// Makes the reply that refuses for this reason.
     pub fn refused(reason: Reason) -> Reply
         ensures text { result ≡ refusal_text reason }
         ensures short { length result ≤ 64 }

@@ -1,4 +1,4 @@
--- What is appended to the text of the rules, for a part of the configuration that is read.
+-- The lines that are appended to the text of the rules, for a part of the configuration that is read.
 use Rattle.std.specs.Prelude.{◌≡◌, ◌∷◌, ◌++◌, Bool, List, Option, Some, [], flat_map, if◌then◌else◌, length, map, option_map, option_to_list, slice_get, ℕ}
 use Rattle.ipv4_fields.specs.declared.endpoint.Endpoint.{Endpoint}
 use Rattle.bpf_verify.specs.Program.{ProgramValue}

@@ -7,7 +7,7 @@ use Rattle.control_rules.specs.declared.loading.Attempt.{Attempt}
 use Rattle.control_rules.specs.declared.loading.Attempt.TheVariants.{Again, Ended}
 use Rattle.control_rules.specs.declared.loading.Loaded.TheVariants.{Changed, Published, Refused, Unchanged}
 
--- what a reply to the change means
+-- the meaning of a reply to the change
 abbrev pub IsReplyRead : List ℕ → Attempt → Type 0
 IsReplyRead reply (Ended (Published version)) = IsPublishedReply reply version
 IsReplyRead reply (Ended (Refused text)) = (text.items ≡ reply) × IsEnd reply

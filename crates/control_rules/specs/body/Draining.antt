@@ -33,7 +33,7 @@ IsPlan config key id (plan.Lines text) =
     (commands : List (Command (List ℕ))) × DrainIn config key id commands × (text.items ≡ changes_text commands)
 IsPlan config key id (plan.Refused refusal) = IsDrainRefusal config key id refusal
 
--- what a reply to the change means
+-- the meaning of a reply to the change
 abbrev pub IsDrainReplyRead : List ℕ → DrainAttempt → Type 0
 IsDrainReplyRead reply (Ended (ended.Published version)) = IsPublishedReply reply version
 IsDrainReplyRead reply (Ended (ended.Refused text)) = (text.items ≡ reply) × IsEnd reply

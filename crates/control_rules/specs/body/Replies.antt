@@ -1,4 +1,4 @@
--- What replies say, by their fields.
+-- The contents of replies, by their fields.
 use Rattle.std.specs.Prelude.{◌≡◌, ◌≤◌, ◌∷◌, List, [], codes, decimal, ℕ}
 use Rattle.std.specs.List.{AllZip}
 use Rattle.ipv4_fields.specs.Endpoint.{IsEndpoint, endpoint_text}

@@ -1,4 +1,4 @@
--- The text that a `PutText` stands for.
+-- The text of a `PutText`.
 use Rattle.std.specs.Prelude.{◌++◌, ◌∷◌, List, [], ℕ}
 use Rattle.control_summary.specs.declared.put_text.Last.{Empty, Last, Byte'}
 

@@ -1,4 +1,4 @@
--- What becomes of one datagram.
+-- The handling of one datagram.
 use Rattle.std.specs.Prelude.{◌≡◌, ◌+◌, ◌∷◌, ◌≤◌, Bool, List, Option, [], length, suc, ℕ}
 use Rattle.read_section.specs.Worker.{WorkerValue}
 use Rattle.packet_verdict.specs.declared.kind.Kind.TheVariants as kind
@@ -17,12 +17,12 @@ KeepsNoMore NoGroup packet = Unit {0}
 KeepsNoMore NoMembers packet = Unit {0}
 KeepsNoMore (Dropped group member) packet = Unit {0}
 
--- the packet was judged in one whole section, and by the version that the section held; that is so, whatever becomes of its send
+-- the packet was judged in one whole section, and by the section's version, whatever happens to its send
 abbrev pub JudgesInSection : WorkerValue → WorkerValue → List ℕ → Verdict → Type 0
 JudgesInSection before after packet verdict =
     (inside : WorkerValue) × ((failed : Bool) → IsJudged before (record { packet = packet; inside = inside; after = after; verdict = verdict; failed = failed }))
 
--- what is to be delivered was sent, or that failed and was counted
+-- the bytes to be delivered were sent, or the send failed and was counted
 pub record IsDelivered (verdict : Verdict) (packet : List ℕ) (counter counter' : CounterValue) (outbox outbox' : OutboxValue)
     (told told' : Option (List Told)) : Type 0 where
   pub failed : Bool

@@ -1,4 +1,4 @@
--- The rule on the table of a tally, and what each of its steps tells the seat that makes it.
+-- The rule on the table of a tally, and what the seat that makes a step learns from it.
 use Rattle.std.specs.Prelude.{◌≡◌, ◌+◌, ◌-◌, ◌*◌, ◌<◌, ◌≤◌, ◌++◌, ◌∷◌, List, [], length, slice_index, ℕ}
 use mathlib.Core.Option.{some}
 use lib.ListN.{get_elem?}
@@ -9,13 +9,13 @@ use Rattle.dispatch.specs.declared.tally.TheConstants.{COUNTERS, COUNT_LIMIT}
 use Rattle.dispatch.specs.declared.tally_rule.CountView.{CountView}
 use Rattle.dispatch.specs.Tally.{GaveAtMost, times}
 
--- the sum of what is told of each view
+-- the sum of a number of each view
 abbrev pub sum_over : (CountView → ℕ) → List CountView → ℕ
 sum_over f [] = 0
 sum_over f (view ∷ rest) = f view + sum_over f rest
 
 -- each word is how often the seats added to it, whoever has them; the counters are all somebody's, and none counted past its
--- limit; no load gave more than its word has now
+-- limit; no load returned more than its word has now
 pub record IsTallied {S : Type 0} (state : State S CountView) : Type 0 where
   pub words : length state.words ≡ KINDS
   pub sums : (place : ℕ) → place < KINDS → slice_index state.words place ≡ sum_over (λ view. times place view.added) state.views
@@ -45,13 +45,13 @@ spent_seat = record { added = []; counters = 0; loads = [] }
 abbrev pub counts : {S : Type 0} → Step S → Me S CountView → ℕ → Me S CountView → Type 0
 counts at me x after = after ≡ (record me.0 { added = at.word ∷ me.0.added }, me.1)
 
--- the word was loaded, which gave no less than before; where the seat has all counters, it is how often they counted
+-- the word was loaded, which returned no less than before; if the seat has all counters, it is how often they counted
 pub record Reads {S : Type 0} (at : Step S) (me : Me S CountView) (x : ℕ) (after : Me S CountView) : Type 0 where
   pub one_load : after ≡ (record me.0 { loads = record { place = at.word; word = x } ∷ me.0.loads }, me.1)
   pub no_less : at.word < KINDS → GaveAtMost me.0.loads at.word x
   pub all : at.word < KINDS → me.0.counters ≡ COUNTERS → x ≡ times at.word me.0.added
 
--- a seat at this table, which holds no slot
+-- a seat at this table, which has no slot
 pub record IsSeatOf {S : Type 0} (slots : List (ℕ × S)) (seat table : TableId) : Type 0 where
   pub no_slots : slots ≡ []
   pub same_table : seat ≡ table

@@ -1,4 +1,4 @@
-//! The cache of extents: hits, misses, evictions, and what another version forgets.
+//! The cache of extents: hits, misses, evictions, and the entries that another version drops.
 
 use config_image::{Extent, ExtentCache};
 use std::test::Fail;

@@ -26,7 +26,7 @@ fn key_at(port: u16) -> Endpoint {
     }
 }
 
-// So many times `ret #0`.
+// `ret #0`, repeated.
 fn returns(alloc: Global, count: usize) -> Result<Program<Global>, Fail> {
     match Program::new(vec![in alloc; 0x0006_0000_0000_0000; count]?) {
         Ok(program) => Ok(program),
@@ -48,7 +48,7 @@ pub(super) enum Act {
     Remove(u16),
     Join(u32),
     Leave(u32),
-    // A program of so many instructions.
+    // A program of this many instructions.
     Select(usize),
     Unselect,
     Filter(u32, usize),
@@ -90,7 +90,7 @@ pub(super) fn after_each(alloc: Global, acts: &[Act]) -> Result<Config, Fail> {
     Ok(config)
 }
 
-// What a configuration has: the ports of its keys in order, the numbers of its members in order, and its charge.
+// The content of a configuration: the ports of its keys in order, the numbers of its members in order, and its charge.
 struct Content {
     ports: &'static [u16],
     ids: &'static [u32],
@@ -250,7 +250,7 @@ pub(super) const ONE_MEMBER: &[Act] = &[Act::Add(53), Act::Join(1)];
 
 pub(super) const LOCKED_BARE: &[Act] = &[Act::Add(53), Act::Join(1), Act::Lock(1)];
 
-// Commands, and what the configuration is charged after each.
+// Commands, and the configuration's charge after each.
 const STEPS: [(Act, u64); 10] = [
     (Act::Add(53), 6),
     (Act::Join(1), 10),
@@ -264,7 +264,7 @@ const STEPS: [(Act, u64); 10] = [
     (Act::Remove(53), 2),
 ];
 
-// Applies the commands until one is refused; tells how many were applied.
+// Applies the commands until one is refused; returns the number that were applied.
 fn applied_within(alloc: Global, heap: &LocalHeap) -> Result<usize, Fail> {
     let mut config = Config::new(heap);
     for (step, (act, charge)) in STEPS.iter().enumerate() {
@@ -285,7 +285,7 @@ fn applied_within(alloc: Global, heap: &LocalHeap) -> Result<usize, Fail> {
 fn commands_under_each_refused_growth(rt: HostRuntime) -> Result<(), Fail> {
     let mut size = 64;
     let mut least = 0;
-    // A block more from heap to heap, so that each growth is once the first that is refused.
+    // Each heap has one block more than the one before, so that each allocation is once the first that is refused.
     for _ in 0..200 {
         let heap = LocalHeap::new(rt.alloc(), size)?;
         let steps = applied_within(rt.alloc(), &heap)?;

@@ -1,4 +1,4 @@
-//! Images that were written down by hand, and what is found in them again.
+//! Images that were written down by hand, and the groups, members and programs that are found in them again.
 
 ghost use Rattle.std.specs.Prelude.{◌≡◌, ◌<◌, IfOk, length};
 ghost use Rattle.config_image.specs.Image.{image};
@@ -44,7 +44,7 @@ pub(super) fn program(alloc: Global, words: &[u64]) -> Result<Program<Global>, F
     }
 }
 
-// The words of the image, each told by its place.
+// The words of the image, each read by its place.
 fn words_of(alloc: Global, config: &Config) -> Result<Vec<u64>, Fail>
     ensures { IfOk result (λ words. words.items ≡ image config.now) }
 {
@@ -201,7 +201,7 @@ pub(super) fn sample(alloc: Global, number: usize) -> Result<Config, Fail> {
     }
 }
 
-// The words at a place are a program's; there is no place where there is no program.
+// The words at a place are a program's; there is no place if there is no program.
 fn stands(words: &[u64], place: Option<ProgramPlace>, program: Option<&Program<Global>>) -> bool {
     match (place, program) {
         (None, None) => true,
@@ -216,7 +216,7 @@ fn stands(words: &[u64], place: Option<ProgramPlace>, program: Option<&Program<G
     }
 }
 
-// All that the groups of a configuration have is found again in words that begin with its image.
+// Everything in the groups of a configuration is found again in words that begin with its image.
 fn finds_members(words: &[u64], config: &Config, index: usize) -> bool
     requires words { BeginsWithImage words.now config.now }
     requires inside { index < length config.now }

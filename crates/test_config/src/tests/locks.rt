@@ -1,10 +1,10 @@
-//! Locks of members: which member has one after commands.
+//! Locks of members: the members that have one after commands.
 
 use super::commands::{Act, LOCKED_BARE, ONE_MEMBER, after_each};
 use member_group::Config;
 use std::test::Fail;
 
-// Which members of the one group are locked, in order, after commands.
+// Whether each member of the one group is locked, in order, after commands.
 const LOCKS: [(&[Act], &[bool]); 7] = [
     (ONE_MEMBER, &[false]),
     (LOCKED_BARE, &[true]),
@@ -19,7 +19,7 @@ const LOCKS: [(&[Act], &[bool]); 7] = [
         ],
         &[true],
     ),
-    // A member that joins behind a locked one.
+    // A member that joins after a locked one.
     (
         &[Act::Add(53), Act::Join(1), Act::Lock(1), Act::Join(2)],
         &[true, false],

@@ -39,7 +39,7 @@ fn pages_from(alloc: Global, config: &Config, first: u32) -> Result<Vec<u32>, Fa
     Ok(pages)
 }
 
-// So many words from place `from` on, of the row with the pages from 0 on.
+// This many words from place `from` on, of the row with the pages from 0 on.
 fn row_words(alloc: Global, config: &Config, from: usize, count: usize) -> Result<Vec<u64>, Fail>
     requires from { from < ROW_WORDS }
     requires count { count ≤ ROW_WORDS - from }
@@ -193,7 +193,7 @@ impl WordSink for RowSink {
     }
 }
 
-// The row is written as its words are told by their places, up to its last zeros.
+// The written row has the words that are read by their places, up to its last zeros.
 fn is_written(alloc: Global, config: &Config, first: u32) -> Result<bool, Fail>
     requires { first ≤ LAST_FIRST }
 {

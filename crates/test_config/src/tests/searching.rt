@@ -6,8 +6,8 @@ use config_image::{FoundPart, PAGE_LIMIT, PageEntry, Search};
 use std::alloc::Global;
 use std::test::Fail;
 
-// The part that a search finds among entries, of parts that end before `end`, and how many entries it asks for. `None` is for a place in
-// no part.
+// The part that a search finds among entries of parts that end before `end`, and the number of entries that it reads.
+// `None` is for a place in no part.
 fn found_in(entries: &[u64], end: usize, place: usize) -> Option<(FoundPart, usize)>
     requires end_fits { end < 2 ^ 48 }
     requires entries_fit { length entries.now ≤ PAGE_LIMIT }

@@ -5,7 +5,7 @@ use hex::FromHexError;
 use std::alloc::Global;
 use std::test::Fail;
 
-// The digits of two blocks of 16 bytes, and of three bytes behind them.
+// The digits of two blocks of 16 bytes, and of three bytes after them.
 const DIGITS: [u8; 70] = *b"0123456789abcdefABCDEF9081726354afbecdAFBECD00ff00FFa0B1c2D3e4F5998877";
 
 fn are_read_alike(alloc: Global, digits: &[u8]) -> Result<bool, Fail> {
@@ -36,7 +36,7 @@ fn digits_of_each_number(rt: HostRuntime) -> Result<(), Fail> {
     Ok(())
 }
 
-// High and low digits in each block, at its ends, and behind the blocks.
+// High and low digits in each block, at its ends, and after the blocks.
 #[test]
 fn each_byte_in_blocks(rt: HostRuntime) -> Result<(), Fail> {
     for place in [0, 17, 31, 32, 63, 64, 69] {

@@ -1,4 +1,4 @@
-//! Refusals that no line is answered with, by their codes.
+//! Refusals that no line has as its reply, by their codes.
 
 use bpf_asm::AsmFault;
 use bpf_verify::Fault;
@@ -11,8 +11,8 @@ use member_group::Refusal;
 use retire::PublishFault;
 use std::test::Fail;
 
-// No text is assembled to the instructions of V3 and V4, no line has a packet, and nothing publishes 2^48 versions. Want of
-// memory is no reply.
+// No text is assembled to the instructions of V3 and V4, no line has a packet, and nothing publishes 2^48 versions.
+// Lack of memory is no reply.
 const TEXTS: [(Reason, &str); 8] = [
     (
         Reason::Text(TextFault::Words(Fault::BadOpcode { pc: 7 })),

@@ -1,4 +1,4 @@
-//! Rules files: which lines count, what they make, and where they are at fault.
+//! Rules files: the lines that count, the configuration that they make, and their faults.
 
 use control_line::{RulesFault, fault_column, line_at, rules};
 use std::alloc::{AllocError, Global};

@@ -10,7 +10,7 @@ use std::io::{ErrorKind, Read, Write};
 use std::process::Abort;
 use std::test::Fail;
 
-// A reader that gives at most so many bytes at a time, and at a place of them fails.
+// A reader that gives a limited number of bytes at a time, and at a place of them fails.
 #[derive(Drop)]
 struct Pieces<'a> {
     bytes: &'a [u8],
@@ -42,7 +42,8 @@ impl Read for Pieces<'_> {
     }
 }
 
-// A writer that has room for so many bytes, and takes at most three at a time. Past that it fails, or writes 0 bytes.
+// A writer that has room for a number of bytes, and takes at most three at a time. Past that it fails, or writes 0
+// bytes.
 #[derive(Drop)]
 struct Room {
     bytes: Vec<u8>,
@@ -76,7 +77,7 @@ impl Write for Room {
     }
 }
 
-// Replays what a reader gives; what was written, and how it ended.
+// Replays the bytes of a reader; returns what was written, and how it ended.
 fn replayed_into(
     alloc: Global,
     reader: impl Read + Drop,
@@ -98,7 +99,7 @@ fn replayed(alloc: Global, reader: impl Read + Drop) -> (Vec<u8>, Result<(), Rep
     replayed_into(alloc, reader, room_for(alloc, usize::MAX, true))
 }
 
-// Bytes are replayed to bytes: what is added is the text of the script.
+// Bytes are replayed to bytes: the text of the script is appended.
 fn replay_bytes(alloc: Global, script: &[u8], out: &mut Vec<u8>) -> Result<(), ReplayFault>
     ensures script_text { OnOk result ((text : List ℕ) × IsScriptText script.now text × (out.new.items ≡ out.old.items ++ text)) }
 {
@@ -148,7 +149,7 @@ const REPLIES: &str = "ok version 1\n\
     reclaimed 7 0\n\
     refused C1\n";
 
-// Nothing changes or clears the filter of a locked member; the lock ends when the member leaves.
+// No command changes or clears the filter of a locked member; the lock ends when the member leaves.
 const SCRIPT_WITH_LOCKS: &str = "add 10.0.0.2:53\n\
     join 10.0.0.2:53 1 127.0.0.1:9001\n\
     filter 10.0.0.2:53 1 expr udp and less 28\n\
@@ -262,7 +263,7 @@ fn bytes_are_replayed_to_bytes(rt: HostRuntime) -> Result<(), Fail> {
     Ok(())
 }
 
-// The replies of the first so many lines.
+// The replies of this many first lines.
 fn first_replies(lines: usize) -> &'static [u8] {
     let mut left = lines;
     for (i, byte) in REPLIES.as_bytes().iter().enumerate() {
@@ -276,7 +277,8 @@ fn first_replies(lines: usize) -> &'static [u8] {
     REPLIES.as_bytes()
 }
 
-// Each read fails in turn, the one that would tell the end too: the replies to the lines that were read whole.
+// Each read fails in turn, also the one that would find the end: the output has the replies to the lines that were read
+// whole.
 fn expect_failed_reads(rt: &impl Abort, alloc: Global) {
     let script = SCRIPT.as_bytes();
     for place in 0..=script.len() {

@@ -12,14 +12,14 @@ use std::io;
 use std::io::{ErrorKind, Read, Write};
 use std::test::Fail;
 
-// What a device answers: it gives or takes so many bytes at most, or fails.
+// The result of a step of a device: it gives or takes at most this many bytes, or fails.
 #[derive(Clone, Copy)]
 enum Step {
     Moves(usize),
     Fails(ErrorKind),
 }
 
-// A reader or a writer that makes its steps in turn. Behind the last it moves nothing.
+// A reader or a writer that makes its steps in turn. After the last it moves nothing.
 #[derive(Drop)]
 struct InSteps<'a> {
     steps: &'a [Step],
@@ -135,7 +135,7 @@ fn writes_that_fail(rt: HostRuntime) -> Result<(), Fail> {
     Ok(())
 }
 
-// The reads behind the end would fail.
+// The reads after the end would fail.
 #[test]
 fn first_end_ends_the_script(rt: HostRuntime) {
     let steps = [
@@ -160,7 +160,7 @@ fn write_once<O: Output>(output: &mut O, bytes: &[u8]) -> Result<usize, Failed>
     output.write(bytes)
 }
 
-// What a writer holds is told after an output over it was written to.
+// The contents of a writer are known after an output over it was written to.
 fn write_through<W: Write>(writer: &mut W, bytes: &[u8]) -> Result<usize, Failed>
     ensures { IfOk result (λ size. Appends (W.contents writer.old) (W.contents writer.new) (take size bytes.now)) }
 {

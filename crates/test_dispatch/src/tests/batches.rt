@@ -70,7 +70,7 @@ pub fn failing_after(rt: &impl Abort, alloc: Global, calls: u8) -> FailsAfter {
     }
 }
 
-// A batch of at most so many, by the bench's worker.
+// A batch of at most `limit` datagrams, by the bench's worker.
 fn batch_of<S: Source, O: Outbox>(
     bench: &mut Bench,
     source: &mut S,

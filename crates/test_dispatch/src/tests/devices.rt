@@ -8,7 +8,7 @@ use read_section::{Operator, WORKERS};
 use std::alloc::Global;
 use std::process::Abort;
 
-/// A source that fails once, after so many calls.
+/// A source that fails once, after this many calls.
 #[derive(Drop)]
 pub struct FailsAfter {
     pub calls: u8,
@@ -55,14 +55,15 @@ impl Outbox for FailsFirst {
     }
 }
 
-/// An outbox that looks, at each send, whether the last worker of a table is outside, and how often was counted as delivered.
+/// An outbox that looks, at each send, whether the last worker of a table is outside, and how many packets were counted
+/// as delivered.
 #[derive(Drop)]
 pub struct Looks {
     pub operator: Operator,
     pub tally: Tally,
-    /// At how many sends the worker's read word was not 0.
+    /// The number of sends at which the worker's read word was not 0.
     pub inside: u8,
-    /// What the tally told at the last send.
+    /// The count of the tally at the last send.
     pub delivered: u64,
     pub sends: Sends,
 }
@@ -86,7 +87,7 @@ const PORT_53: Endpoint = Endpoint {
     port: 53,
 };
 
-/// Puts a datagram of these bytes behind the others.
+/// Puts a datagram of these bytes after the others.
 pub fn push(rt: &impl Abort, alloc: Global, datagrams: &mut Datagrams, bytes: &[u8]) {
     let datagram = Vec::from_slice(alloc, bytes).expect(rt, "a datagram's bytes");
     datagrams.push(datagram).expect(rt, "one datagram more");
@@ -105,7 +106,7 @@ fn datagrams_come_in_order_and_cut(rt: HostRuntime) {
     assert_eq!(rt; datagrams.next(&mut buf), Ok(None));
 }
 
-/// Room for so many sends, and for so many bytes in all of them.
+/// Room for `count` sends, and for `bytes` bytes in all of them.
 pub fn sends(rt: &impl Abort, alloc: Global, count: usize, bytes: usize) -> Sends {
     Sends::with_room(alloc, count, bytes).expect(rt, "room for sends")
 }

@@ -12,7 +12,7 @@ use std::sync::Wait;
 struct Expected {
     next: Cell<u64>,
     step: u64,
-    // How often a batch started, how often one ended, and how often it was another one.
+    // The numbers of starts, of ends, and of batches other than the expected one.
     started: Cell<u32>,
     ended: Cell<u32>,
     wrong: Cell<u32>,

@@ -8,7 +8,7 @@ use dispatch::{COUNTERS, Counter, Kind, Tally, Totals, gather};
 use std::alloc::{AllocError, Global};
 use std::test::Fail;
 
-// Counts once, where the counter is not full.
+// Counts once, if the counter is not full.
 fn count(counter: &mut Counter, kind: Kind)
     ensures { counter.new.table ≡ counter.old.table }
 {

@@ -1,4 +1,4 @@
-//! Two jobs in threads of their own, and what runs beside them.
+//! Two jobs in threads of their own, and the code that runs beside them.
 
 ghost use Rattle.std.specs.Prelude.{◌≡◌, ◌≤◌};
 
@@ -113,7 +113,7 @@ fn two_jobs_and_side_run_at_once(rt: HostRuntime) {
     are_both_done(&rt, &mut tally, &dones);
 }
 
-// How often each number was told: in hexadecimal, digit n counts number n, from 1 to 9, and digit 0 any other.
+// The count of each number: in hexadecimal, digit n counts number n, from 1 to 9, and digit 0 any other.
 #[derive(Drop)]
 struct Numbers {
     started: AtomicU64,

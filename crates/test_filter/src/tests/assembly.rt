@@ -1,4 +1,4 @@
-//! Assembling and printing where memory is refused.
+//! Assembling and printing if memory is refused.
 
 use super::assert_numbered;
 use bpf_asm::{AsmFault, assemble, print};
@@ -6,8 +6,8 @@ use bpf_verify::Program;
 use linked_list_allocator::LocalHeap;
 use std::alloc::{Allocator, Global};
 
-// How far memory lasts: 0 where it does not suffice for the words, 1 where it does not for the program's text. None where
-// another fault is told, or an answer is wrong.
+// How far memory lasts: 0 if it does not suffice for the words, 1 if it does not for the program's text. None if
+// another fault is returned, or a result is wrong.
 type Lasted = Option<usize>;
 
 fn printed_within(heap: &LocalHeap, program: &Program<&LocalHeap>) -> Lasted {
@@ -40,7 +40,7 @@ fn assembled_within(heap: &LocalHeap, text: &[u8], first: u64) -> Lasted {
 const TEXT: &[u8] =
     b"a: ja c; b: neg; c: jeq #1,d,e; d: neg; e: neg; f: jeq x,g,g; g: neg; h: neg; ret #65535; i: ret a";
 
-// The same in a heap of so many bytes, which has all of them again behind it.
+// The same in a heap of this many bytes, which has all of them again afterwards.
 fn steps_within(alloc: Global, size: usize) -> Lasted {
     match LocalHeap::new(alloc, size) {
         Ok(heap) => {
@@ -55,7 +55,7 @@ fn steps_within(alloc: Global, size: usize) -> Lasted {
 fn assembly_under_each_refused_growth(rt: HostRuntime) {
     let mut size = 64;
     let mut least = 0;
-    // A block more from heap to heap, so that each growth is once the first that is refused.
+    // Each heap has one block more than the one before, so that each allocation is once the first that is refused.
     for _ in 0..300 {
         let steps = steps_within(rt.alloc(), size).expect(&rt, "only memory is refused");
         assert_numbered(&rt, least <= steps, size as u64);
@@ -73,7 +73,7 @@ fn is_refused<A: Allocator + Clone>(alloc: A, text: &[u8], expected: AsmFault) -
 }
 
 fn are_told(heap: &LocalHeap) -> bool {
-    // Another fault stays the answer where its cause is found before memory is refused.
+    // Another fault is still returned if its cause is found before memory is refused.
     is_refused(heap, b"neg; a: foo", AsmFault::Syntax { line: 2 })
         && is_refused(heap, b"ja x", AsmFault::UnknownLabel { line: 1 })
         && is_refused(heap, b"a: neg", AsmFault::OutOfMemory)

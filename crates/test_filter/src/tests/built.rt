@@ -1,4 +1,4 @@
-//! What the tests of trees and of the compiler build: trees by hand, the sample packet, and arenas of few bytes.
+//! Things that the tests of trees and of the compiler build: trees by hand, the sample packet, and arenas of few bytes.
 
 ghost use Rattle.std.specs.Prelude.{◌≤◌, length};
 ghost use Rattle.bpf_verify.specs.Program.{IsProgram};
@@ -96,7 +96,7 @@ pub fn net(direction: Direction, address: u32, length: u32) -> Option<Primitive>
     Some(Primitive::Net(direction, Prefix::new(address, length)?))
 }
 
-/// Whether the tree is printed so in an allocator's memory; none where memory is refused.
+/// Whether the tree is printed so in an allocator's memory; none if memory is refused.
 pub fn is_printed<A: Allocator, B: Allocator>(
     tree: &Expr<A>,
     alloc: B,
@@ -116,7 +116,7 @@ pub fn is_arith_printed<B: Allocator>(arith: &Arith<Global>, alloc: B, text: &st
     }
 }
 
-/// Whether a copy by an allocator is printed so; none where memory is refused.
+/// Whether a copy by an allocator is printed so; none if memory is refused.
 pub fn is_copied<B: Allocator + Clone>(
     tree: &Expr<Global>,
     alloc: Global,
@@ -157,7 +157,8 @@ pub fn answers<A: Allocator>(program: &Program<A>, packet: &[u8], value: u32) ->
     run(&mut words, 0, count, packet).value == value
 }
 
-/// Whether an answer may come with more memory than the one before: it is not wrong, and not refused where that one was not.
+/// Whether a result may come with more memory than the one before: it is not wrong, and not refused if that one was
+/// not.
 pub fn follows(before: Option<bool>, now: Option<bool>) -> bool {
     match now {
         Some(is_right) => is_right,
@@ -175,7 +176,7 @@ fn fill(arena: &Bump<Global>, room: usize) -> Result<(), AllocError> {
     Ok(())
 }
 
-/// An arena that has so many bytes left, and gets no more.
+/// An arena that has this many bytes left, and gets no more.
 pub fn arena_with(alloc: Global, room: usize) -> Result<Bump<Global>, AllocError> {
     let arena = Bump::try_with_capacity(alloc, ARENA)?;
     fill(&arena, room)?;

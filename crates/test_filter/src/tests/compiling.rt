@@ -1,4 +1,4 @@
-//! Compiling a tree that is deeper than that of any text, and compiling where memory is refused.
+//! Compiling a tree that is deeper than that of any text, and compiling if memory is refused.
 
 use super::assert_numbered;
 use super::built::{ARENA, PORT_53, SAMPLE_PACKET, Tree, answers, arena_with, follows, or};
@@ -8,7 +8,7 @@ use filter_tree::{Direction, Expr, Primitive, Transport};
 use std::alloc::Global;
 use std::process::Abort;
 
-// So many port ranges, joined by `or`.
+// `count` port ranges, joined by `or`.
 fn port_ranges(alloc: Global, count: u16) -> Tree {
     let first = Primitive::PortRange(Transport::Unnamed, Direction::Either, 1, 2);
     let mut tree = Expr::Primitive(first);
@@ -42,7 +42,7 @@ fn hundred_and_twenty_port_ranges(rt: HostRuntime) {
     assert!(rt; has_charge(rt.alloc(), 121, Err(CompileFault::TooLong)));
 }
 
-// Whether the tree's program, in the arena's memory, is right; none where memory is refused.
+// Whether the tree's program, in the arena's memory, is right; none if memory is refused.
 fn is_compiled_in(arena: &Bump<Global>, tree: &Expr<Global>) -> Option<bool> {
     match compile(arena, tree) {
         Ok(program) => Some(answers(&program, &SAMPLE_PACKET, 65_535)),
@@ -51,7 +51,7 @@ fn is_compiled_in(arena: &Bump<Global>, tree: &Expr<Global>) -> Option<bool> {
     }
 }
 
-// The same in an arena with so many bytes left. The tree's memory and the program's are of unlike allocators.
+// The same in an arena with this many bytes left. The tree's memory and the program's are of unlike allocators.
 fn is_compiled_within(alloc: Global, tree: &Expr<Global>, room: usize) -> Option<bool> {
     match arena_with(alloc, room) {
         Ok(arena) => is_compiled_in(&arena, tree),
@@ -59,7 +59,7 @@ fn is_compiled_within(alloc: Global, tree: &Expr<Global>, room: usize) -> Option
     }
 }
 
-// The fewest bytes in which the tree's program finds room; it finds it in each greater number too.
+// The fewest bytes in which the tree's program has room; it has room in each greater number too.
 fn least_room(rt: &impl Abort, alloc: Global, tree: &Expr<Global>) -> usize {
     let mut least = ARENA;
     let mut before = None;
@@ -82,7 +82,7 @@ fn least_room_of(rt: &impl Abort, alloc: Global, tree: Tree) -> usize {
     }
 }
 
-// `greater 30 or greater 30 or .. or greater 29` with so many parts: a jump of each leads to yes.
+// `greater 30 or greater 30 or .. or greater 29` with `count` parts: a jump of each leads to yes.
 fn alternatives(alloc: Global, count: u32) -> Tree {
     let mut tree = Expr::Primitive(Primitive::AtLeast(30));
     for _ in 2..count {

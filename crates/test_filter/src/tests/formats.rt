@@ -114,7 +114,7 @@ fn formatted_within(heap: &LocalHeap) -> Result<usize, Fail> {
     }
 }
 
-// The same in a heap of so many bytes, which has all of them again afterwards.
+// The same in a heap of this many bytes, which has all of them again afterwards.
 fn steps_within(rt: &impl Abort, alloc: Global, size: usize) -> Result<usize, Fail> {
     let heap = LocalHeap::new(alloc, size)?;
     let steps = formatted_within(&heap)?;
@@ -126,7 +126,7 @@ fn steps_within(rt: &impl Abort, alloc: Global, size: usize) -> Result<usize, Fa
 fn formats_under_each_refused_growth(rt: HostRuntime) -> Result<(), Fail> {
     let mut size = 64;
     let mut least = 0;
-    // A block more from heap to heap, so that each growth is once the first that is refused.
+    // Each heap has one block more than the one before, so that each allocation is once the first that is refused.
     for _ in 0..120 {
         let steps = steps_within(&rt, rt.alloc(), size)?;
         assert!(rt; least <= steps, "a heap of {size} bytes");

@@ -1,4 +1,4 @@
-//! Parsing an expression where memory is refused.
+//! Parsing an expression if memory is refused.
 
 use super::assert_numbered;
 use super::built::{follows, is_printed};
@@ -18,7 +18,7 @@ fn is_wrong_fault(fault: ParseFault) -> Option<bool> {
     }
 }
 
-// Whether the text's tree is right; none where the heap has no memory for it.
+// Whether the text's tree is right; none if the heap has no memory for it.
 fn is_read(alloc: Global, heap: &LocalHeap) -> Option<bool> {
     match parse(heap, TEXT) {
         Ok(tree) => is_printed(&tree, alloc, PRINTED),
@@ -26,7 +26,7 @@ fn is_read(alloc: Global, heap: &LocalHeap) -> Option<bool> {
     }
 }
 
-// The same for a heap of so many bytes, which has all of them again behind it.
+// The same for a heap of this many bytes, which has all of them again afterwards.
 fn is_read_within(alloc: Global, size: usize) -> Option<bool> {
     match LocalHeap::new(alloc, size) {
         Ok(heap) => {
@@ -45,7 +45,7 @@ fn is_read_within(alloc: Global, size: usize) -> Option<bool> {
 fn each_allocation_refused_in_turn(rt: HostRuntime) {
     let mut size = 64;
     let mut read = None;
-    // A block more from heap to heap, so that each growth is once the first that is refused.
+    // Each heap has one block more than the one before, so that each allocation is once the first that is refused.
     for _ in 0..200 {
         let is_read = is_read_within(rt.alloc(), size);
         assert_numbered(&rt, follows(read, is_read), size as u64);

@@ -1,4 +1,4 @@
-//! Trees built by hand: their texts, measures and copies, and what they say of the sample packet.
+//! Trees built by hand: their texts, measures and copies, and their outcomes on the sample packet.
 
 mod memory;
 
@@ -56,18 +56,18 @@ fn third_is_seven(alloc: Global) -> Tree {
     Ok(compared(third(alloc)?, Relation::Equal, 7))
 }
 
-// What is asked of a tree, with the answer.
+// A question about a tree, with the answer.
 #[derive(Clone, Copy)]
 enum Asked<'a> {
     // Its text, and its depth, cells and size.
     Text(&'a str, u32, u32, u32),
-    // What it says of the sample packet with this byte at a place.
+    // Its outcome on the sample packet with this byte at a place.
     Truth(usize, u8, Truth),
     // From how many of the sample packet's bytes on it accepts them, and up to how many.
     Lengths(usize, usize),
 }
 
-// Whether the packet's beginnings of so many bytes are accepted, and no others.
+// Whether the packet's beginnings of these numbers of bytes are accepted, and no others.
 fn is_accepted(tree: &Expr<Global>, least: usize, most: usize) -> bool {
     for len in 0..30 {
         let is_within = least <= len && len <= most;
@@ -361,7 +361,7 @@ const PREFIXES: [(u32, u32, bool); 7] = [
     (0, 4294967295, false),
 ];
 
-// Whether a prefix is made of them exactly where that is expected, and tells them.
+// Whether a prefix is made of them if and only if that is expected, with this address and this length.
 fn is_made(address: u32, length: u32, is_prefix: bool) -> bool {
     match Prefix::new(address, length) {
         Some(made) => is_prefix && made.address() == address && made.length() == length,

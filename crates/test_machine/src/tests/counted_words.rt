@@ -4,7 +4,7 @@ use bpf_insn::Words;
 use bpf_machine::{Outcome, run};
 use bpf_verify::{Fault, verify};
 
-// The words of a slice, and how often one was read.
+// The words of a slice, and the number of reads of them.
 #[derive(Drop)]
 struct CountedWords<'a> {
     list: &'a [u64],
@@ -29,7 +29,7 @@ impl<'a> Words for CountedWords<'a> {
 // Byte 9, the protocol, is that of UDP.
 const PACKET: &[u8] = &[0, 0, 0, 0, 0, 0, 0, 0, 0, 17];
 
-// How a program ends on the packet: its value, its steps, and how many words were read meanwhile.
+// The result of a program on the packet: its value, its steps, and the number of words that were read meanwhile.
 fn ending(list: &[u64]) -> Result<(u32, u32, usize), Fault> {
     let mut words = CountedWords { list, reads: 0 };
     let count = words.count();

@@ -1,4 +1,5 @@
-//! Selectors that spread by weight, with ample memory: the table, what its program returns, and the way back.
+//! Selectors that spread by weight, with ample memory: the table, the results of its program, and reading the table
+//! back.
 
 use bpf_machine::{MAX_PACKET, run};
 use bpf_verify::Program;

@@ -68,7 +68,7 @@ fn clone_keeps_words_and_charge(rt: HostRuntime) -> Result<(), Fail> {
     Ok(())
 }
 
-// Whether a clone in a heap of so many bytes is one; none where it has no room.
+// Whether a clone in a heap of this many bytes is one; none if it has no room.
 fn clones_in(alloc: Global, program: &Program<Global>, size: usize) -> Result<Option<bool>, Fail> {
     let heap = LocalHeap::new(alloc, size)?;
     match program.clone_in(&heap) {

@@ -1,4 +1,4 @@
-//! Extents: how many words of a program are ready at once where its pages follow each other, and where they do not.
+//! Extents: the number of words of a program that are ready at once, if its pages follow each other and if they do not.
 
 ghost use Rattle.std.specs.Prelude.{◌≡◌};
 
@@ -24,7 +24,7 @@ fn key_of(group: u32) -> Endpoint {
     }
 }
 
-// `ld #1`, `ld #2` and so on, and then `ret #0`: so many instructions.
+// `ld #1`, `ld #2` and so on, and then `ret #0`: `count` instructions.
 fn loads(alloc: Global, count: usize) -> Result<Program<Global>, Fail> {
     let mut words = vec![in alloc; 0; 0]?;
     for k in 1..count {
@@ -37,14 +37,14 @@ fn loads(alloc: Global, count: usize) -> Result<Program<Global>, Fail> {
     }
 }
 
-// Gives a group a selector of so many instructions.
+// Gives a group a selector of `count` instructions.
 fn selecting(alloc: Global, config: &Config, group: u32, count: usize) -> Result<Config, Fail> {
     let program = loads(alloc, count)?;
     let key = key_of(group);
     applied(config, Command::SetSelector { key, program })
 }
 
-// Groups 1, 2 and 3, with selectors of so many instructions.
+// Groups 1, 2 and 3, with selectors of these numbers of instructions.
 fn three_groups(alloc: Global, counts: [usize; 3]) -> Result<Config, Fail> {
     let [first, second, third] = counts;
     let mut config = Config::new(alloc);
@@ -56,7 +56,8 @@ fn three_groups(alloc: Global, counts: [usize; 3]) -> Result<Config, Fail> {
     Ok(config)
 }
 
-// What a program of loads has at a place of the image, if it has all places from the first to the last of these.
+// The word of a program of loads at a place of the image, if the program has all places from the first to the last of
+// these.
 fn load_at(first: usize, last: usize, place: usize) -> u64 {
     if place == last {
         RETURN
@@ -65,7 +66,8 @@ fn load_at(first: usize, last: usize, place: usize) -> u64 {
     }
 }
 
-// Makes word i of a program of loads ready, and counts the words that are ready from it on. 0 is for a word that is another one.
+// Makes word i of a program of loads ready, and counts the words that are ready from it on. 0 is for a word that is
+// another one.
 fn ready_count<W: Words>(words: &mut W, first: usize, last: usize, i: usize) -> usize
     ensures words_kept { W.words words.new ≡ W.words words.old }
 {
@@ -134,7 +136,7 @@ fn pages_are(operator: &Operator, wanted: &[u32]) -> bool {
     operator.current_pages() == wanted
 }
 
-// The programs begin behind 2 words and 4 for each group.
+// The programs begin after 2 words and 4 for each group.
 const FIRST: usize = 14;
 
 fn are_one_extent(rt: &impl Abort, operator: &Operator, worker: &mut Worker) {
@@ -153,13 +155,13 @@ fn program_in_pages_one_behind_the_other(rt: HostRuntime) -> Result<(), Fail> {
     })
 }
 
-// Publishes another selector of group 2, of so many instructions.
+// Publishes another selector of group 2, of `count` instructions.
 fn selects(alloc: Global, operator: &mut Operator, count: usize) -> Result<bool, Fail> {
     let next = selecting(alloc, operator.config(), 2, count)?;
     Ok(operator.publish(next).is_ok())
 }
 
-// Page 1 is free, and pages 2 and 3 are not: the program's second part stands in page 4.
+// Page 1 is free, and pages 2 and 3 are not: the program's second part is in page 4.
 fn scatters(rt: &impl Abort, alloc: Global, operator: &mut Operator) -> Result<(), Fail> {
     assert!(rt; selects(alloc, operator, 2)?);
     assert!(rt; pages_are(operator, &[0, 3, 2]));
@@ -199,7 +201,7 @@ fn are_forgotten(
     Ok(())
 }
 
-// The cache of a version does not serve for the next one, whose program is elsewhere.
+// The cache of a version is not used for the next one, whose program is elsewhere.
 #[test]
 fn extents_of_the_version_before_are_forgotten(rt: HostRuntime) -> Result<(), Fail> {
     on_table(three_groups(rt.alloc(), [1, 40, 1])?, |operator, worker| {
@@ -207,7 +209,8 @@ fn extents_of_the_version_before_are_forgotten(rt: HostRuntime) -> Result<(), Fa
     })
 }
 
-// Of 34 entries a search needs six, or five for some places. The reads that are left of eleven are made for the parts behind.
+// Among 34 entries a search needs six reads, or five for some places. The reads that are left of eleven are made for
+// the parts after it.
 #[test]
 fn long_program_has_several_extents(rt: HostRuntime) -> Result<(), Fail> {
     on_table(

@@ -1,14 +1,14 @@
-//! A slow reference for the tests: it answers each step by all that was done before.
+//! A slow reference for the tests: it computes the result of each step from all that was done before.
 
 use std::test::Fail;
 use versions::Step::{self, Announce, Fetch, Fill, Leave, Peek, Pin, Publish, Scan};
 use versions::{PAGES, ROWS, TABLE_WORDS, WORKERS};
 
-// The row of the configuration without groups, by docs/SWITCH.md, "The pooled form": the image's length, where the programs would
-// begin and no parts; and no groups.
+// The row of the configuration without groups, by docs/SWITCH.md, "The pooled form": the image's length, the place at
+// which programs would begin and no parts; and no groups.
 pub const EMPTY_ROW: [u64; 2] = [0x0002_0002_0000, 0];
 
-// Where a row begins, behind `current` and the read words; behind the table where there is no such row.
+// The place of a row, after `current` and the read words; after the table if there is no such row.
 pub fn begin_of(row: usize) -> usize {
     if row < ROWS {
         1 + WORKERS + row * 8192
@@ -17,7 +17,7 @@ pub fn begin_of(row: usize) -> usize {
     }
 }
 
-// Where a page begins, behind the rows; behind the table where there is no such page.
+// The place of a page, after the rows; after the table if there is no such page.
 pub fn begin_of_page(page: usize) -> usize {
     if page < PAGES {
         131_137 + page * 16
@@ -26,7 +26,7 @@ pub fn begin_of_page(page: usize) -> usize {
     }
 }
 
-// What was done, and nothing else: each question goes through all of it.
+// All that was done, and nothing else: each question goes through all of it.
 #[derive(Drop)]
 pub struct History {
     pub words: Vec<u64>,
@@ -48,7 +48,7 @@ impl History {
         self.words.get(place).copied()
     }
 
-    // What the last steps of a worker were, peeks inside left out: none, a peek, an announce or a pin, and its word.
+    // The last steps of a worker, without peeks inside: none, a peek, an announce or a pin, and its word.
     fn last_of(&self, worker: usize) -> Option<(Step, u64)> {
         let mut last = None;
         for (step, word) in &self.made {

@@ -1,4 +1,4 @@
-//! Configurations that tell a number, and how a row is compared with theirs.
+//! Configurations that have a number, and the comparison of a row with theirs.
 
 ghost use Rattle.std.specs.Prelude.{◌≡◌};
 
@@ -8,7 +8,7 @@ use member_group::{Command, Config};
 use std::alloc::Global;
 use std::test::Fail;
 
-// A configuration that tells a number: one group without members at that address, port 53. Its image, by docs/SWITCH.md:
+// A configuration that has a number: one group without members at that address, port 53. Its image, by docs/SWITCH.md:
 // the length 6, 1 group, its key, its first member record, no member, no selector.
 pub fn config_of(alloc: Global, number: u32) -> Result<Config, Fail> {
     let key = Endpoint {
@@ -18,7 +18,7 @@ pub fn config_of(alloc: Global, number: u32) -> Result<Config, Fail> {
     applied(&Config::new(alloc), Command::AddGroup { key })
 }
 
-/// Whether it is what `config_of` gives: the whole of it.
+/// Whether it is the configuration of `config_of`: the whole of it.
 pub fn is_config_of(config: &Config, number: u32) -> bool {
     let [group] = config.groups() else {
         return false;
@@ -37,7 +37,7 @@ pub fn applied(config: &Config, command: Command) -> Result<Config, Fail> {
     }
 }
 
-// How many words differ from the row of `config_of`.
+// The number of words that differ from the row of `config_of`.
 pub fn differing<W: Words>(words: &mut W, number: u64) -> usize
     ensures words_kept { W.words words.new ≡ W.words words.old }
     ensures rest_kept { W.rest words.new ≡ W.rest words.old }

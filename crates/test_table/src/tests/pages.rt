@@ -1,4 +1,4 @@
-//! Pages of the pool, and words of rows, as an operator tells and fills them.
+//! Pages of the pool, and words of rows, as an operator returns and fills them.
 
 use super::numbered::config_of;
 use super::sections::read_whole;
@@ -7,7 +7,7 @@ use read_section::{Operator, PAGE_WORDS, PAGES, ROW_WORDS};
 use std::process::Abort;
 use std::test::Fail;
 
-// Fills a place of a page; tells whether the page was free, and so may be filled.
+// Fills a place of a page; returns whether the page was free, and so may be filled.
 fn page_filled(operator: &mut Operator, page: usize, place: usize) -> bool {
     if !operator.page_is_free(page) || place >= PAGE_WORDS {
         return false;
@@ -43,7 +43,7 @@ fn each_page_is_free_at_first(rt: HostRuntime) -> Result<(), Fail> {
     })
 }
 
-// Fills a place of a row; tells whether the row was free, and so may be filled.
+// Fills a place of a row; returns whether the row was free, and so may be filled.
 fn row_filled(operator: &mut Operator, row: usize, place: usize, word: u64) -> bool {
     if !operator.is_free(row) || place >= ROW_WORDS {
         return false;
@@ -63,7 +63,7 @@ const FILLS: [(usize, usize, u64, bool, u64); 6] = [
 ];
 
 fn fills_are_told(rt: &impl Abort, operator: &mut Operator) {
-    // The image's length, where programs would begin, and no part.
+    // The image's length, the place at which programs would begin, and no part.
     assert!(rt; operator.row_word(0, 0) == 0x0006_0006_0000 && operator.row_word(15, 0) == 0);
     for fill in &FILLS {
         let (row, place, word, may, after) = *fill;

@@ -53,7 +53,7 @@ fn joined(config: &Config, member: u32) -> Result<Config, Fail> {
     applied(config, join)
 }
 
-// The group with one member, whose filter has 4096 instructions: each returns so many bytes.
+// The group with one member, whose filter has 4096 instructions: each returns this many bytes.
 fn with_long_filter(alloc: Global, bytes: u32) -> Result<Config, Fail> {
     let joined = joined(&with_group(alloc)?, 0)?;
     let program = returns(alloc, 4096, bytes)?;
@@ -67,7 +67,7 @@ fn with_long_filter(alloc: Global, bytes: u32) -> Result<Config, Fail> {
     )
 }
 
-// The row of the group with a selector, where the program stands in page 0; the words behind it are 0.
+// The row of the group with a selector, whose program is in page 0; the words after it are 0.
 const SELECTOR_ROW: [u64; 8] = [
     0x0007_0006_0001,
     1,
@@ -79,7 +79,7 @@ const SELECTOR_ROW: [u64; 8] = [
     0,
 ];
 
-// A word of a row, as an operator tells it.
+// A word of a row, as an operator returns it.
 fn row_word(operator: &Operator, row: usize, place: usize) -> Option<u64> {
     if row < ROWS && place < ROW_WORDS {
         Some(operator.row_word(row, place))
@@ -119,7 +119,7 @@ fn pooled_empty_row(rt: HostRuntime) -> Result<(), Fail> {
     })
 }
 
-// The row and its page, as an operator tells them.
+// The row and its page, as an operator returns them.
 fn operator_stores_selector(rt: &impl Abort, operator: &Operator) {
     operator_has(rt, operator, &SELECTOR_ROW);
     assert!(rt; pages_are_from(operator, 0, 1));
@@ -191,7 +191,7 @@ fn world_with_the_same(alloc: Global) -> Result<World, Fail> {
     Ok(world)
 }
 
-// A row is published where the page that it names has the program, and not before.
+// A row is published if the page that it names has the program, and not before.
 fn publishes_with_its_pages(rt: &impl Abort, world: &mut World) {
     fills_row(rt, world, 1);
     let place = begin_of_page(1);
@@ -233,7 +233,7 @@ fn row_is_published_with_a_page_of_the_version_before(rt: HostRuntime) -> Result
     Ok(())
 }
 
-// Whether the current pages are so many from this one on.
+// Whether the current pages are `count` pages from this one on.
 fn pages_are_from(operator: &Operator, first: u32, count: usize) -> bool {
     let mut wanted = first;
     for page in operator.current_pages() {
@@ -253,7 +253,7 @@ const LONG_ROW: [(usize, u64); 4] = [
     (266, 0),
 ];
 
-// Words of a row at places, and the pages of the filter, behind which all are free.
+// Words of a row at places, and the pages of the filter, after which all are free.
 fn has_filter(rt: &impl Abort, operator: &Operator, row: usize, words: &[(usize, u64)]) {
     for (place, word) in words {
         assert!(rt;
@@ -265,7 +265,7 @@ fn has_filter(rt: &impl Abort, operator: &Operator, row: usize, words: &[(usize,
     assert!(rt; operator.free_page(0) == Some(256));
 }
 
-// The filter's first word, another of its first page, its last word, and the word behind it.
+// The filter's first word, another of its first page, its last word, and the word after it.
 const LONG_PAGES: [(usize, usize, u64); 4] = [
     (0, 0, RETURN),
     (0, 15, RETURN),
@@ -315,8 +315,8 @@ fn takes_the_least_free_pages(
     Ok(())
 }
 
-// Each publication of another filter takes the least free pages: behind those of the versions before, and those again when these are
-// free.
+// Each publication of another filter takes the least free pages: after those of the versions before, and those again
+// when these are free.
 #[test]
 fn new_pages_are_the_least_free_ones(rt: HostRuntime) -> Result<(), Fail> {
     on_table(with_long_filter(rt.alloc(), 0)?, |operator, _worker| {

@@ -17,13 +17,13 @@ use std::sync::{Mutex, Wait};
 use std::test::Fail;
 use std::thread;
 
-// Publishes the next version, and tells whether it has this number.
+// Publishes the next version, and returns whether it has this number.
 fn is_published(alloc: Global, operator: &mut Operator, number: u64) -> Result<bool, Fail> {
     let config = config_of(alloc, u32::try_from(number).unwrap_or(0))?;
     Ok(matches!(operator.publish(config), Ok(published) if published == number))
 }
 
-// Tries to publish, and tells whether no row was free and the configuration came back.
+// Tries to publish, and returns whether no row was free and the configuration came back.
 fn is_busy(alloc: Global, operator: &mut Operator) -> Result<bool, Fail> {
     let refused = operator.publish(config_of(alloc, 1)?);
     Ok(matches!(&refused, Err((PublishFault::Busy, config)) if is_config_of(config, 1)))
@@ -32,7 +32,7 @@ fn is_busy(alloc: Global, operator: &mut Operator) -> Result<bool, Fail> {
 // The last version that finds a row while a worker stays in version 0.
 const LAST_WITH_ROW: u64 = ROWS as u64 - 1;
 
-// Publishes until no row is free, and tells whether that is behind that version.
+// Publishes until no row is free, and returns whether that is after that version.
 fn fills_all_rows(alloc: Global, operator: &mut Operator) -> Result<bool, Fail> {
     for number in 0..LAST_WITH_ROW {
         if !is_published(alloc, operator, number + 1)? {
@@ -77,8 +77,8 @@ fn stray(operator: &mut Operator, row: usize, place: usize)
     }
 }
 
-// The row that a version is published in, where a worker reads each and stays in none: rows 1 to 15 in turn, then the fifteen that a
-// round of scans frees, from row 0 on.
+// The row in which a version is published, if a worker reads each and stays in none: rows 1 to 15 in turn, then the
+// fifteen that a round of scans frees, from row 0 on.
 fn row_of(number: u64) -> usize {
     let rows = ROWS as u64;
     let row = if number < rows {
@@ -89,7 +89,7 @@ fn row_of(number: u64) -> usize {
     row as usize
 }
 
-// Each word of a row is fetched, and a shorter image leaves no word of a longer one behind.
+// Each word of a row is fetched, and a shorter image leaves no word of a longer one in it.
 fn is_used_again(
     rt: &impl Abort,
     alloc: Global,
@@ -97,7 +97,7 @@ fn is_used_again(
     worker: &mut Worker,
     number: u64,
 ) -> Result<(), Fail> {
-    // Stray words behind the image, which the publication has to clear.
+    // Stray words after the image, which the publication has to clear.
     for row in 0..ROWS {
         stray(operator, row, 7000);
         stray(operator, row, 8191);
@@ -135,7 +135,7 @@ fn rows_are_used_again(rt: HostRuntime) -> Result<(), Fail> {
     })
 }
 
-// Enters so many times: how many sections were not whole, or older than one before.
+// Enters `times` times; returns the number of sections that were not whole, or older than one before.
 fn bad_sections(worker: &mut Worker, times: u32) -> u32 {
     let mut newest = 0;
     let mut bad = 0u32;
@@ -149,7 +149,8 @@ fn bad_sections(worker: &mut Worker, times: u32) -> u32 {
     bad
 }
 
-// Tries to publish so many versions: how many answers were neither the next number nor `Busy` with the configuration.
+// Tries to publish `times` versions; returns the number of results that were neither the next number nor `Busy` with
+// the configuration.
 fn bad_publications(alloc: Global, operator: &mut Operator, times: u32) -> Result<u32, Fail> {
     let mut bad = 0u32;
     for _ in 0..times {
@@ -169,7 +170,7 @@ fn add(rt: &impl Wait, sum: &Mutex<u32>, number: u32) {
     *sum = sum.wrapping_add(number);
 }
 
-// A table at version 0, with so many of its workers.
+// A table at version 0, with `count` of its workers.
 fn table_of(alloc: Global, count: usize) -> Result<(Operator, Vec<Worker>), Fail> {
     let (operator, mut workers) = open(config_of(alloc, 0)?)?;
     workers.truncate(count);
@@ -221,7 +222,7 @@ fn fills_beside(alloc: Global, operator: &mut Operator, worker: &mut Worker) -> 
     filled
 }
 
-// Whether a sweep reports so many versions, from the first on.
+// Whether a sweep reports `count` versions, from the first on.
 fn reclaims(operator: &mut Operator, first: u64, count: u64) -> bool {
     operator.sweep() == (Reclaimed { first, count })
 }
@@ -278,7 +279,7 @@ fn lost_worker_keeps_its_version(rt: HostRuntime) -> Result<(), Fail> {
     })
 }
 
-// Adds a member with a filter of so many instructions.
+// Adds a member with a filter of `count` instructions.
 fn with_filter(alloc: Global, config: &Config, member: u32, count: usize) -> Result<Config, Fail> {
     let join = Command::Join {
         key: KEY,
@@ -302,20 +303,20 @@ const KEY: Endpoint = Endpoint {
     port: 53,
 };
 
-// One group with two members, whose filters have so many instructions: its charge is 14 more than theirs.
+// One group with two members, whose filters have these numbers of instructions: its charge is 14 more than theirs.
 fn with_filters(alloc: Global, first: usize, second: usize) -> Result<Config, Fail> {
     let group = applied(&Config::new(alloc), Command::AddGroup { key: KEY })?;
     let one = with_filter(alloc, &group, 1, first)?;
     with_filter(alloc, &one, 2, second)
 }
 
-// Tries to publish the greatest charge, and tells whether that is version 1.
+// Tries to publish the greatest charge, and returns whether that is version 1.
 fn greatest_is_published(alloc: Global, operator: &mut Operator) -> Result<bool, Fail> {
     let greatest = with_filters(alloc, 4096, 4082)?;
     Ok(greatest.charge() == 8192 && matches!(operator.publish(greatest), Ok(1)))
 }
 
-// Tries to publish a charge of one more, and tells whether that is refused.
+// Tries to publish a charge of one more, and returns whether that is refused.
 fn one_more_is_refused(alloc: Global, operator: &mut Operator) -> Result<bool, Fail> {
     let refused = operator.publish(with_filters(alloc, 4096, 4083)?);
     Ok(matches!(&refused, Err((PublishFault::TooBig, config)) if config.charge() == 8193))

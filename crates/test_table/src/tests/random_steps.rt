@@ -59,7 +59,7 @@ impl Numbers {
     }
 }
 
-// Makes a step in both, where it is legal, and tells whether it is.
+// Makes a step in both, if it is legal, and returns whether it is.
 fn steps(
     rt: &impl Abort,
     world: &mut World,
@@ -81,7 +81,7 @@ fn steps(
     }
 }
 
-// Tells how many steps were legal.
+// Returns the number of steps that were legal.
 fn steps_at_random(
     rt: &impl Abort,
     alloc: Global,

@@ -57,7 +57,7 @@ fn add_group(config: &mut Config) -> Result<(), Fail> {
     Ok(())
 }
 
-// The program that answers a number.
+// The program that returns a number.
 fn answering(alloc: Global, number: u32) -> Result<Program<Global>, Fail> {
     let words = vec![in alloc; 0x0006_0000_0000_0000 | u64::from(number); 1]?;
     match Program::new(words) {
@@ -71,7 +71,7 @@ fn select(config: &mut Config, number: u32) -> Result<(), Fail> {
     apply(config, &Command::SetSelector { key: KEY, program })
 }
 
-// A group of members 1, 2 and 3, whose selector answers a number.
+// A group of members 1, 2 and 3, whose selector returns a number.
 fn selecting(alloc: Global, number: u32) -> Result<Config, Fail> {
     let mut config = Config::new(alloc);
     add_group(&mut config)?;

@@ -23,7 +23,7 @@ use std::alloc::Global;
 use std::process::Abort;
 use std::test::Fail;
 
-// Two groups, whose selectors have so many instructions: the charge is 10 more than theirs.
+// Two groups, whose selectors have these numbers of instructions: the charge is 10 more than theirs.
 fn with_selectors(alloc: Global, counts: [usize; 2]) -> Result<Config, Fail> {
     let mut config = Config::new(alloc);
     for (port, count) in [(1, counts[0]), (2, counts[1])] {
@@ -38,8 +38,8 @@ fn with_selectors(alloc: Global, counts: [usize; 2]) -> Result<Config, Fail> {
     Ok(config)
 }
 
-// Enters, reads the section through its `Words` alone, and leaves. Of the worker's log it is proved that these steps were added
-// to it and no others. Answers the version, and how many words were not its row's.
+// Enters, reads the section through its `Words` alone, and leaves. It is proved that these steps were added to the
+// worker's log and no others. Returns the version, and the number of words that were not its row's.
 pub fn read_whole(worker: &mut Worker) -> (u64, usize)
     ensures whole { (inside : WorkerValue) × IsWholeSection worker.old inside worker.new }
 {
@@ -97,7 +97,7 @@ fn publish(rt: &impl Abort, alloc: Global, operator: &mut Operator, number: u32)
     Err(Fail::from("the row is free"))
 }
 
-// Enters once another worker told what it has seen: the version is the last of that, or a later one.
+// Enters once another worker passed on what it has seen: the version is the last of that, or a later one.
 fn enter_told(worker: &mut Worker, other: &mut Worker) -> (u64, usize)
     requires { worker.old.table ≡ other.old.table }
     ensures told { length other.old.view.seen ≤ suc result.0 }
@@ -110,8 +110,8 @@ fn enter_told(worker: &mut Worker, other: &mut Worker) -> (u64, usize)
     (number, wrong)
 }
 
-// The last worker, after it abandoned its section, counts as inside, also where it meets the operator, until it enters again and
-// leaves.
+// The last worker, after it abandoned its section, counts as inside, even if it meets the operator, until it enters
+// again and leaves.
 fn counts_as_inside(rt: &impl Abort, operator: &mut Operator, worker: &mut Worker)
     requires { worker.old.table ≡ operator.old.table }
 {
@@ -173,7 +173,7 @@ fn section_keeps_its_version(rt: HostRuntime) -> Result<(), Fail> {
     keeps_its_version(&rt, rt.alloc(), &mut operator, &mut worker)
 }
 
-// The last worker never met the operator: it is told of a version by the first one, which did.
+// The last worker never met the operator: it learns of a version from the first one, which did.
 fn is_told(
     rt: &impl Abort,
     alloc: Global,
@@ -196,7 +196,7 @@ fn told_by_another_worker(rt: HostRuntime) -> Result<(), Fail> {
     is_told(&rt, rt.alloc(), &mut operator, &mut first, &mut last)
 }
 
-// The charge of version 0, where the table opens.
+// The charge of version 0, if the table opens.
 fn opened_charge(config: Config) -> Result<u64, OpenFault> {
     let (operator, _workers) = open(config)?;
     Ok(operator.config().charge())

@@ -1,4 +1,5 @@
-//! Programs that stay in their pages from version to version: which pages versions name, and sections that read them meanwhile.
+//! Programs that stay in their pages from version to version: the pages that versions name, and sections that read them
+//! meanwhile.
 
 ghost use Rattle.std.specs.Prelude.{◌≡◌, ◌≤◌};
 
@@ -26,7 +27,7 @@ fn key_of(group: u32) -> Endpoint {
     }
 }
 
-// Gives a group a selector of one instruction, which returns so many bytes.
+// Gives a group a selector of one instruction, which returns this many bytes.
 fn selecting(alloc: Global, config: &Config, group: u32, bytes: u64) -> Result<Config, Fail> {
     let Ok(program) = Program::new(vec![in alloc; RETURN.wrapping_add(bytes); 1]?) else {
         return Err(Fail::from("a return is a program"));
@@ -56,8 +57,9 @@ fn pages_are(operator: &Operator, wanted: &[u32]) -> bool {
     operator.current_pages() == wanted
 }
 
-// The group, what its selector returns then, and the pages that the version names. Pages 0, 1 and 2 are those of version 0, and stay
-// in use; 19 stands in one page at a time, and 12 is a new program where the version before has no such one.
+// The group, the number that its selector then returns, and the pages that the version names. Pages 0, 1 and 2 are
+// those of version 0, and stay in use; 19 is in one page at a time, and 12 is a new program if the version before has
+// no such one.
 const CHANGES: [(u32, u64, [u32; 3]); 5] = [
     (2, 19, [0, 3, 2]),
     (3, 19, [0, 3, 3]),
@@ -88,7 +90,7 @@ fn takes_equal_pages(rt: &impl Abort, alloc: Global, operator: &mut Operator) ->
         assert!(rt; selects(alloc, operator, *group, *bytes)?);
         assert!(rt; pages_are(operator, pages), "{bytes} bytes");
     }
-    // The pages of the versions before are free, but for those that the current version names.
+    // The pages of the versions before are free, except those that the current version names.
     assert!(rt; operator.sweep().count == 5);
     assert!(rt; selects(alloc, operator, 3, 11)?);
     assert!(rt; pages_are(operator, &[5, 4, 0]));
@@ -112,12 +114,13 @@ fn equal_programs_take_the_pages_of_the_version_before(rt: HostRuntime) -> Resul
 
 const LAST: u64 = 10_000;
 
-// Which selector a group has in a version: each version changes one group's, often to one that another group had before it.
+// The selector of a group in a version: each version changes one group's, often to one that another group had before
+// it.
 fn kind_of(number: u64, group: u64) -> u64 {
     number.wrapping_add(group) / 3 % 7
 }
 
-// How many instructions it has: from 1 to 55, so from one page to four.
+// The number of its instructions: from 1 to 55, so from one page to four.
 fn len_of(kind: u64) -> u64 {
     kind.wrapping_mul(9).wrapping_add(1)
 }
@@ -129,8 +132,8 @@ fn instruction(kind: u64, place: u64) -> u64 {
         .wrapping_add(place)
 }
 
-// Word i of the row that holds the image of a version (docs/SWITCH.md, "Image"): the length, three groups, for each its key, where
-// member records begin, no member and where its selector stands, and then the selectors.
+// Word i of the row with the image of a version (docs/SWITCH.md, "Image"): the length, three groups, for each its key,
+// the place at which member records begin, no member and the place of its selector, and then the selectors.
 fn expected(number: u64, i: u64) -> u64 {
     let mut record = 2u64;
     let mut begin = 14u64;
@@ -191,7 +194,7 @@ fn publish_at_last(operator: &mut Operator, config: Config) -> Result<u64, Fail>
     Err(Fail::from("never free"))
 }
 
-// Publishes each version up to the last: how many answers were not its number.
+// Publishes each version up to the last; returns the number of results that were not its number.
 fn bad_publications(alloc: Global, operator: &mut Operator) -> Result<u32, Fail> {
     let mut bad = 0u32;
     for number in 1..=LAST {
@@ -204,15 +207,15 @@ fn bad_publications(alloc: Global, operator: &mut Operator) -> Result<u32, Fail>
     Ok(bad)
 }
 
-// How many words of a row are compared: those of an image, at most 179, and zeros behind it. Sections are short then, and hold up
-// no publication for long, however busy the machine is.
+// The number of words of a row that are compared: those of an image, at most 179, and zeros after it. Sections are
+// short then, and delay no publication for long, however busy the machine is.
 fn compared(count: usize) -> usize
     ensures { result ≤ count }
 {
     if count < 256 { count } else { 256 }
 }
 
-// How many words differ from those of a version.
+// The number of words that differ from those of a version.
 fn differing<W: Words>(words: &mut W, number: u64) -> usize
     ensures words_kept { W.words words.new ≡ W.words words.old }
     ensures rest_kept { W.rest words.new ≡ W.rest words.old }
@@ -226,7 +229,7 @@ fn differing<W: Words>(words: &mut W, number: u64) -> usize
     count
 }
 
-// Reads the words of sections, up to one on the last version: how many sections were not whole.
+// Reads the words of sections, up to one on the last version; returns the number of sections that were not whole.
 fn bad_sections(worker: &mut Worker) -> u32 {
     let mut bad = 0u32;
     for _ in 0..1000u32 {

@@ -1,5 +1,5 @@
-//! A table that is lent to a test. A function that owns a table and its workers costs much to prove, since it drops them on each way
-//! out; so only these do.
+//! A table that is lent to a test. A function that owns a table and its workers costs much to prove, since it drops
+//! them on each return, so only these do.
 
 use member_group::Config;
 use read_section::{Operator, Worker, open};

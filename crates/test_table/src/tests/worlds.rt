@@ -1,4 +1,4 @@
-//! Lists of steps: a worker that stalls before it announces, steps with their answers, and refused growths.
+//! Lists of steps: a worker that stalls before it announces, steps with their results, and refused allocations.
 
 use super::history::{EMPTY_ROW, begin_of};
 use bpf_verify::Program;
@@ -11,7 +11,7 @@ use std::test::Fail;
 use versions::Step::{self, Announce, Fetch, Fill, Leave, Peek, Pin, Publish, Scan};
 use versions::{ROWS, StepFault, TABLE_WORDS, WORKERS, World};
 
-// Publishes the empty configuration from the least free row, and answers the word stored; 0 where no row is free.
+// Publishes the empty configuration from the least free row, and returns the word stored; 0 if no row is free.
 fn publish(alloc: Global, world: &mut World) -> Result<u64, Fail> {
     for row in 0..ROWS {
         let place = begin_of(row);
@@ -32,7 +32,7 @@ fn scan_all<A: Allocator>(world: &mut World<A>) -> Result<u64, Fail> {
     Ok(greatest)
 }
 
-// How many rows are free; each row adds at most 1.
+// The number of free rows; each row adds at most 1.
 fn free_rows(world: &mut World) -> usize {
     let mut count = 0;
     for row in 0..ROWS {
@@ -45,7 +45,7 @@ fn free_rows(world: &mut World) -> usize {
     count
 }
 
-// What `publish` answers must be this version, in some row.
+// The result of `publish` must be this version, in some row.
 fn publishes(rt: &impl Abort, alloc: Global, world: &mut World, number: u64) -> Result<(), Fail> {
     let mut word = publish(alloc, world)?;
     if word == 0 {
@@ -60,7 +60,7 @@ fn pinned_version(world: &mut World) -> Result<u64, Fail> {
     Ok(world.step(Pin { worker: 0 })? / ROWS as u64)
 }
 
-// While the worker's read word tells version 3, no more becomes free than was before.
+// While the worker's read word shows version 3, no more becomes free than was before.
 fn holds_back(rt: &impl Abort, alloc: Global, world: &mut World) -> Result<(), Fail> {
     assert!(rt; world.step(Announce { worker: 0 }) == Ok(4));
     assert!(rt; pinned_version(world)? == 90);
@@ -93,7 +93,7 @@ fn stalled_worker_holds_back_more(rt: HostRuntime) -> Result<(), Fail> {
     stalls(&rt, rt.alloc(), &mut world)
 }
 
-// Each step with its answer, in a world whose version 0 is the empty configuration; no answer is "not legal".
+// Each step with its result, in a world whose version 0 is the empty configuration; no result is "not legal".
 const ANSWERS: [(Step, Option<u64>); 37] = [
     (Announce { worker: 0 }, None),
     (Pin { worker: 0 }, None),
@@ -212,14 +212,14 @@ const ANSWERS: [(Step, Option<u64>); 37] = [
     (Scan { place: 1 }, Some(0)),
 ];
 
-// Once a configuration is proposed: publications from a row, with their answers.
+// Once a configuration is proposed: publications from a row, with their results.
 const PUBLICATIONS: [(Step, Option<u64>); 3] = [
     (Publish { row: 7 }, None),
     (Publish { row: 1 }, Some(17)),
     (Publish { row: 1 }, None),
 ];
 
-// Each step with its answer; no answer is "not legal".
+// Each step with its result; no result is "not legal".
 pub fn answers(rt: &impl Abort, world: &mut World, steps: &[(Step, Option<u64>)]) {
     for (step, answer) in steps {
         assert!(rt;
@@ -242,8 +242,9 @@ fn steps_and_their_answers(rt: HostRuntime) -> Result<(), Fail> {
     answers_before_and_after(&rt, rt.alloc(), &mut world)
 }
 
-// The group 10.0.0.2:53 with the member 7 at 127.0.0.1:9001, without programs, and its row in the pooled form: its image, but for
-// the first word, which has the image's length, where programs would begin, and no parts.
+// The group 10.0.0.2:53 with the member 7 at 127.0.0.1:9001, without programs, and its row in the pooled form: its
+// image, except for the first word, which has the image's length, the place at which programs would begin, and no
+// parts.
 const GROUP: Endpoint = Endpoint {
     address: 0x0a00_0002,
     port: 53,
@@ -319,7 +320,7 @@ fn group_is_published_word_by_word(rt: HostRuntime) -> Result<(), Fail> {
     Ok(())
 }
 
-// Steps a worker's round, until one is refused; returns how many rounds were made.
+// Steps a worker's round, until one is refused; returns the number of rounds that were made.
 fn rounds_of<'a>(heap: &'a LocalHeap, world: &mut World<&'a LocalHeap>) -> Result<usize, Fail> {
     for round in 1..40usize {
         match world.propose(Config::new(heap)) {
@@ -335,7 +336,7 @@ fn rounds_of<'a>(heap: &'a LocalHeap, world: &mut World<&'a LocalHeap>) -> Resul
         ] {
             match world.step(step) {
                 Ok(_) => {}
-                // The world is as before: the same step is refused again for want of memory alone.
+                // The world is as before: the same step is refused again for lack of memory alone.
                 Err(StepFault::OutOfMemory) if world.step(step) == Err(StepFault::OutOfMemory) =>
                     return Ok(round),
                 Err(_) => return Err(Fail::from("only memory is refused")),
@@ -356,7 +357,7 @@ fn rounds_within(heap: &LocalHeap) -> Result<usize, Fail> {
 #[test]
 fn world_under_each_refused_growth(rt: HostRuntime) -> Result<(), Fail> {
     let mut least = 0;
-    // From where the words of the table are refused, and from where the numbers of the pages are.
+    // From the sizes at which the words of the table are refused, and from those at which the numbers of the pages are.
     for (first, sizes) in [(5_243_000usize, 40usize), (5_505_000, 340)] {
         let mut size = first;
         for _ in 0..sizes {

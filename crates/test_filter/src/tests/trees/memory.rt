@@ -9,10 +9,10 @@ use filter_tree::{Arith, Expr};
 use std::alloc::Global;
 use std::process::Abort;
 
-// What is made in an arena.
+// A copy or a text that is made in an arena.
 #[derive(Clone, Copy)]
 enum Made<'a> {
-    // A tree's copy; its text tells what it is.
+    // A tree's copy; its text shows what it is.
     Copy(&'a Expr<Global>),
     // A tree's text.
     Text(&'a Expr<Global>),
@@ -20,7 +20,7 @@ enum Made<'a> {
     ArithText(&'a Arith<Global>),
 }
 
-// Whether what is made in an arena with so many bytes left has this text; none if memory is refused.
+// Whether the copy or text that is made in an arena with this many bytes left has this text; none if memory is refused.
 fn is_made_in(alloc: Global, made: Made, text: &str, room: usize) -> Option<bool> {
     let Ok(arena) = arena_with(alloc, room) else {
         return Some(false);
@@ -32,7 +32,7 @@ fn is_made_in(alloc: Global, made: Made, text: &str, room: usize) -> Option<bool
     }
 }
 
-// From no room on, byte by byte, each allocation is the first that is refused.
+// From no room on, byte by byte, each allocation is once the first that is refused.
 fn is_refused_in_turn(rt: &impl Abort, alloc: Global, made: Made, text: &str) {
     let mut before = is_made_in(alloc, made, text, 0);
     assert!(rt; before.is_none());
