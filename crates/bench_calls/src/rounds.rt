@@ -26,23 +26,24 @@ pub(crate) fn section_rounds(worker: &mut Worker, rounds: u64) -> u64
     rounds
 }
 
-// Not inlined, like the function of dispatch that judges packets.
+// Not inlined, like the function of dispatch that judges packets. The verdict is written where the caller wants it, so that a caller that
+// reads some of its fields loads no others.
 #[inline(never)]
-fn judge_in_section(worker: &mut Worker, packet: &[u8]) -> Verdict
+fn judge_in_section(worker: &mut Worker, packet: &[u8], verdict: &mut Verdict)
     requires { length packet.now ≤ 65535 }
 {
     let mut section = worker.enter();
-    let verdict = judge(&mut section, packet);
+    *verdict = judge(&mut section, packet);
     section.leave();
-    verdict
 }
 
 pub(crate) fn judge_rounds(worker: &mut Worker, packet: &[u8], rounds: u64) -> u64
     requires { length packet.now ≤ 65535 }
     ensures { result ≡ rounds }
 {
+    let mut verdict = Verdict::Malformed;
     for _ in 0..rounds {
-        let _ = judge_in_section(worker, packet);
+        judge_in_section(worker, packet, &mut verdict);
     }
     rounds
 }
@@ -62,8 +63,9 @@ pub(crate) fn kind_rounds(worker: &mut Worker, packet: &[u8], rounds: u64) -> u6
     ensures { result ≤ rounds }
 {
     let mut counts = [0; KINDS];
+    let mut verdict = Verdict::Malformed;
     for _ in 0..rounds {
-        let verdict = judge_in_section(worker, packet);
+        judge_in_section(worker, packet, &mut verdict);
         count_kind(&mut counts, verdict.kind());
     }
     let mut sum = 0u64;
@@ -84,21 +86,26 @@ fn hand_on(log: &mut VerdictLog, table: &mut MemberTable, adds: bool) {
     log.clear();
 }
 
-// Counts a verdict that begins a run, if there is room.
+// Counts a verdict that may begin a run, if there is room.
 #[inline(never)]
-fn begin_run(log: &mut VerdictLog, verdict: Verdict) {
-    if !log.is_full() {
-        log.judged(&verdict);
+fn begin_run(log: &mut VerdictLog, verdict: &Verdict) {
+    if !log.judged_again(verdict) && !log.is_full() {
+        log.judged(verdict);
     }
 }
 
 // Judges the packet and counts the verdict in the log, if there is room.
 #[inline]
-fn judge_and_log(worker: &mut Worker, packet: &[u8], log: &mut VerdictLog)
+fn judge_and_log(
+    worker: &mut Worker,
+    packet: &[u8],
+    verdict: &mut Verdict,
+    log: &mut VerdictLog,
+)
     requires { length packet.now ≤ 65535 }
 {
-    let verdict = judge_in_section(worker, packet);
-    if !log.judged_again(&verdict) {
+    judge_in_section(worker, packet, verdict);
+    if !log.delivered_again(verdict) {
         begin_run(log, verdict);
     }
 }
@@ -117,14 +124,15 @@ pub(crate) fn count_rounds(
     let Ok(mut log) = VerdictLog::new(alloc, BATCH as usize) else {
         return 0;
     };
+    let mut verdict = Verdict::Malformed;
     for _ in 0..rounds / BATCH {
         for _ in 0..BATCH {
-            judge_and_log(worker, packet, &mut log);
+            judge_and_log(worker, packet, &mut verdict, &mut log);
         }
         hand_on(&mut log, &mut table, adds);
     }
     for _ in 0..rounds % BATCH {
-        judge_and_log(worker, packet, &mut log);
+        judge_and_log(worker, packet, &mut verdict, &mut log);
     }
     rounds
 }

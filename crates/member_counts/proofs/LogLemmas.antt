@@ -1,6 +1,6 @@
 -- The last run of a log, after those before it.
-use Rattle.std.proofs.Common.{◌≡◌, ◌==◌, ◌&&◌, ◌<◌, ◌^◌, ◌∙◌, ◌++◌, ◌∷◌, Bool, IsSome, List, None, Option, Some, [], ap, arith, false, length, nat_eq, refl, subst, sym, true, ℕ}
-use Rattle.std.proofs.lemmas.Bool.Decides.{Decides-eqb, nat_tests}
+use Rattle.std.proofs.Common.{◌≡◌, ◌==◌, ◌&&◌, ◌<◌, ◌+◌, ◌*◌, ◌^◌, ◌∙◌, ◌++◌, ◌∷◌, Bool, IsSome, List, None, Option, Some, [], ap, arith, false, length, nat_eq, not, refl, subst, sym, true, ℕ}
+use Rattle.std.proofs.lemmas.Bool.Decides.{Decides-and, Decides-eqb, Decides-like, nat_tests, same_from_decides}
 use Rattle.std.specs.Option.{option_eq}
 use Rattle.ipv4_fields.specs.declared.endpoint.Endpoint.{Endpoint}
 use Rattle.member_counts.specs.declared.counts.Counts.{Counts}
@@ -9,7 +9,7 @@ use Rattle.member_counts.specs.declared.log.Run.{Run}
 use Rattle.member_counts.specs.Counts.{failed_one, no_counts, plus}
 use Rattle.member_counts.specs.Key.{member_key, same_group, same_key}
 use Rattle.member_counts.specs.Log.{earlier_runs, last_failed, last_has, last_run, marked_failed, with_run}
-use Rattle.member_counts.specs.body.Runs.{number_of, runs}
+use Rattle.member_counts.specs.body.Runs.{group_number, is_sent, number_of, runs}
 use Rattle.member_counts.proofs.KeyLemmas.{same_from_same_key}
 
 module _ (key : CountKey) (counts : Counts) where
@@ -72,6 +72,15 @@ option_eq-number : (member : Option ℕ) (id : ℕ) → id < 2 ^ 32 → option_e
 option_eq-number None id small = number-none id small
 option_eq-number (Some number) id small = refl
 
+-- groups are the same exactly if their numbers are
+pub same_group-numbers : (group other : Endpoint) → group.address < 2 ^ 32 → other.address < 2 ^ 32
+    → (group_number group == group_number other) ≡ same_group group other
+same_group-numbers group other small fits =
+    same_from_decides (group_number group == group_number other) (same_group group other)
+    (Decides-like (group_number group == group_number other) (λ same. (omega (arith, same, small, fits), omega (arith, same, small, fits)))
+    (λ same. omega (arith, same.0, same.1)) (Decides-eqb (group_number group) (group_number other)))
+    (Decides-and (group.address == other.address) (group.port == other.port) (Decides-eqb group.address other.address) (Decides-eqb group.port other.port))
+
 -- a member's key is found by the member's number
 pub last_has-number : (earlier : List Run) (has_last : Bool) (last : Run) (group : Endpoint) (id number : ℕ)
     → (has_last ≡ false → (length earlier ≡ 0) × (last.key.member ≡ None)) → number ≡ number_of last.key.member → id < 2 ^ 32
@@ -93,6 +102,9 @@ is-same number id is = (Decides-eqb number id).1 is
 
 pub is-other : (number id : ℕ) → (number ≡ id → ⊥) → (number == id) ≡ false
 is-other number id never = not-true (number == id) (λ same. never ((Decides-eqb number id).0 same))
+
+pub sent-other : (delivered ended : ℕ) → (delivered ≡ ended → ⊥) → is_sent delivered ended ≡ true
+sent-other delivered ended never = ap (λ b. not b) (is-other delivered ended never)
 
 failed : (earlier : List Run) (last : Run)
     → earlier ++ record last { counts = plus last.counts failed_one } ∷ [] ≡ last_failed (earlier ++ last ∷ [])

@@ -51,6 +51,14 @@ begins_no_run verdict.NoMembers runs = true
 begins_no_run (verdict.Dropped group member) runs = last_has (member_key group member) runs
 begins_no_run (verdict.Deliver group member to bytes) runs = last_has (member_key group member) runs
 
+-- a verdict delivers to the last run's member
+abbrev pub delivers_again : Verdict → List Run → Bool
+delivers_again verdict.Malformed runs = false
+delivers_again verdict.NoGroup runs = false
+delivers_again verdict.NoMembers runs = false
+delivers_again (verdict.Dropped group member) runs = false
+delivers_again (verdict.Deliver group member to bytes) runs = last_has (member_key group member) runs
+
 -- one failed send more in the last run
 abbrev pub last_failed : List Run → List Run
 last_failed [] = []

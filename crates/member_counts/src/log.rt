@@ -1,10 +1,10 @@
 //! The counts of a worker that are not yet in the table (docs/SWITCH.md, "Counters by member").
 
-ghost use Rattle.std.specs.Prelude.{◌≡◌, ◌<◌, ◌≤◌, ◌↔◌, ◌++◌, ◌∷◌, IfOk, IsSome, IsTrue, None, [], false, length, true};
-ghost use Rattle.member_counts.specs.Counts.{delivered_one, dropped_one};
+ghost use Rattle.std.specs.Prelude.{◌≡◌, ◌<◌, ◌≤◌, ◌^◌, ◌↔◌, ◌++◌, ◌∷◌, IfOk, IsSome, IsTrue, None, [], false, length, true, vec_capacity};
+ghost use Rattle.member_counts.specs.Counts.{delivered_one, dropped_one, no_counts};
 ghost use Rattle.member_counts.specs.Key.{member_key};
-ghost use Rattle.member_counts.specs.Log.{begins_no_run, earlier_runs, last_has, last_run, marked_failed, with_counts, with_no_members, with_verdict};
-ghost use Rattle.member_counts.specs.body.Runs.{number_of};
+ghost use Rattle.member_counts.specs.Log.{begins_no_run, delivers_again, earlier_runs, last_has, last_run, marked_failed, with_counts, with_no_members, with_verdict};
+ghost use Rattle.member_counts.specs.body.Runs.{group_number, is_sent, number_of};
 
 use crate::counts::Counts;
 use crate::key::CountKey;
@@ -23,7 +23,9 @@ pub struct Run {
 impl Run {
     // The value of `last` if there is no run: its key is not a member's.
     fn nothing() -> Run
-        ensures { result.key.member ≡ None }
+        ensures member { result.key.member ≡ None }
+        ensures group { group_number result.key.group ≡ 0 }
+        ensures counts { result.counts ≡ no_counts }
     {
         let group = Endpoint {
             address: 0,
@@ -50,8 +52,26 @@ fn number_of(member: Option<u32>) -> u64
     }
 }
 
-// The counts of one delivered packet. They are inlined always, so that no zero is added.
+// The group's key, in one comparison with another one. Both fields lie in the packet's verdict as one word of 64 bits, of which 16 are not
+// used: the processor gets this number by one shift.
 #[inline(always)]
+fn group_number(group: &Endpoint) -> u64
+    ensures number { result ≡ group_number group.now }
+    ensures fits { group.now.address < 2 ^ 32 }
+{
+    u64::from(group.port) * 0x1_0000_0000_0000 + u64::from(group.address) * 0x1_0000
+}
+
+// Returns the value of `ended` after a packet: its send can fail, or not.
+fn ended_after(counts: &Counts, sent: bool) -> u64
+    requires { IsTrue sent → 0 < counts.now.delivered }
+    ensures sent { is_sent counts.now.delivered result ≡ sent }
+    ensures bounded { result ≤ counts.now.delivered }
+{
+    if sent { 0 } else { counts.delivered }
+}
+
+// The counts of one delivered packet.
 fn one_delivered(bytes: usize) -> Counts
     ensures { result ≡ delivered_one bytes }
 {
@@ -62,7 +82,6 @@ fn one_delivered(bytes: usize) -> Counts
     }
 }
 
-#[inline(always)]
 fn one_dropped() -> Counts
     ensures { result ≡ dropped_one }
 {
@@ -70,6 +89,18 @@ fn one_dropped() -> Counts
         dropped: 1,
         ..Counts::none()
     }
+}
+
+// Adds a run to those before the last one. It is not inlined, as the first run of a log does not need it.
+#[inline(never)]
+fn keep(earlier: &mut Vec<Run>, run: &Run)
+    requires { length earlier.old.items < vec_capacity earlier.old }
+    ensures kept { earlier.new.items ≡ earlier.old.items ++ run.now ∷ [] }
+    ensures capacity { vec_capacity earlier.old ≤ vec_capacity earlier.new }
+{
+    let Ok(()) = earlier.push(*run) else {
+        unreachable!()
+    };
 }
 
 /// The runs that a worker has not added to the table, and the number of runs for which there is room.
@@ -81,28 +112,38 @@ pub struct VerdictLog {
     // The last run, if there is one. It is beside the others, since nearly every packet is counted in it.
     last: Run,
     has_last: bool,
-    // The number of the last run's member, so that a packet's member is compared with it at once.
+    // The numbers of the last run's member and group, so that a packet's are compared with them at once.
     member: u64,
-    // The last packet that was counted was delivered, and its send has not failed.
-    sent: bool,
+    group: u64,
+    // A send can fail if the last run has another number of delivered packets than this. So a packet of the same member need not store
+    // that it was sent.
+    ended: u64,
     // The number of further runs for which there is room.
     left: usize,
     room: usize,
 }
 
 impl Model for VerdictLog {
-    ghost use Rattle.std.specs.Prelude.{◌≡◌, ◌+◌, ◌≤◌, None, false, length, vec_capacity};
+    ghost use Rattle.std.specs.Prelude.{◌≡◌, ◌+◌, ◌<◌, ◌≤◌, ◌^◌, None, false, length, vec_capacity};
     ghost use Rattle.member_counts.specs.Log.{Log};
-    ghost use Rattle.member_counts.specs.body.Runs.{number_of, runs};
+    ghost use Rattle.member_counts.specs.body.Runs.{group_number, is_sent, number_of, runs};
 
     ghost Value = { Log };
 
-    ghost view = { λ log. record { entries = runs log.earlier.items log.has_last log.last; room = log.room; sent = log.sent } };
+    ghost view = { λ log. record {
+        entries = runs log.earlier.items log.has_last log.last;
+        room = log.room;
+        sent = is_sent log.last.counts.delivered log.ended;
+    } };
 
     ghost invariant = { λ log. (length (runs log.earlier.items log.has_last log.last) + log.left ≡ log.room)
         × (log.room ≤ vec_capacity log.earlier)
-        × (log.has_last ≡ false → (length log.earlier.items ≡ 0) × (log.sent ≡ false) × (log.last.key.member ≡ None))
-        × (log.member ≡ number_of log.last.key.member) };
+        × (log.has_last ≡ false → (length log.earlier.items ≡ 0) × (is_sent log.last.counts.delivered log.ended ≡ false)
+            × (log.last.key.member ≡ None))
+        × (log.member ≡ number_of log.last.key.member)
+        × (log.group ≡ group_number log.last.key.group)
+        × (log.last.key.group.address < 2 ^ 32)
+        × (log.ended ≤ log.last.counts.delivered) };
 }
 
 impl VerdictLog {
@@ -115,7 +156,8 @@ impl VerdictLog {
             last: Run::nothing(),
             has_last: false,
             member: NO_MEMBER,
-            sent: false,
+            group: 0,
+            ended: 0,
             left: room,
             room,
         })
@@ -151,21 +193,21 @@ impl VerdictLog {
         if self.has_last { Some(self.last) } else { None }
     }
 
-    // Begins a run. It is not inlined, as packets that come one after another seldom need it.
-    #[inline(never)]
+    // Begins a run.
+    #[inline(always)]
     fn begin(&mut self, run: Run, sent: bool)
-        requires { length self.old.entries < self.old.room }
+        requires room { length self.old.entries < self.old.room }
+        requires delivered { IsTrue sent → 0 < run.counts.delivered }
         ensures { self.new ≡ record self.old { entries = self.old.entries ++ run ∷ []; sent = sent } }
     {
         if self.has_last {
-            let Ok(()) = self.earlier.push(self.last) else {
-                unreachable!()
-            };
+            keep(&mut self.earlier, &self.last);
         }
         self.last = run;
         self.has_last = true;
         self.member = number_of(run.key.member);
-        self.sent = sent;
+        self.group = group_number(&run.key.group);
+        self.ended = ended_after(&run.counts, sent);
         self.left -= 1;
     }
 
@@ -173,7 +215,8 @@ impl VerdictLog {
     // is added.
     #[inline(always)]
     fn add(&mut self, key: CountKey, counts: Counts, sent: bool)
-        requires { length self.old.entries < self.old.room }
+        requires room { length self.old.entries < self.old.room }
+        requires delivered { IsTrue sent → 0 < counts.delivered }
         ensures { self.new ≡ with_counts key counts sent self.old }
     {
         if self.has_last {
@@ -186,12 +229,13 @@ impl VerdictLog {
     #[inline(always)]
     fn add_to_last(&mut self, key: CountKey, counts: Counts, sent: bool)
         requires room { length self.old.entries < self.old.room }
+        requires delivered { IsTrue sent → 0 < counts.delivered }
         requires last { self.old.entries ≡ [] → IsSome key.member }
         ensures { self.new ≡ with_counts key counts sent self.old }
     {
         if self.last.key == key {
             self.last.counts = self.last.counts.plus(counts);
-            self.sent = sent;
+            self.ended = ended_after(&self.last.counts, sent);
             return;
         }
         self.begin(Run { key, counts }, sent);
@@ -202,64 +246,60 @@ impl VerdictLog {
     fn is_last(&self, group: &Endpoint, member: u32) -> bool
         ensures { result ≡ last_has (member_key group.now member) self.now.entries }
     {
-        self.member == member as u64 && self.last.key.group == *group
+        self.member == member as u64 && self.group == group_number(group)
     }
 
-    // Adds counts to the last run, if it has the member's key. Returns whether it has.
+    /// Counts a packet that is delivered to the member of the last run. Returns whether it is such a packet. It needs no room; if it returns
+    /// false, call `judged_again`, or make room and call `judged`.
     #[inline(always)]
-    fn add_again(&mut self, group: &Endpoint, member: u32, counts: Counts, sent: bool) -> bool
+    pub fn delivered_again(&mut self, verdict: &Verdict) -> bool
+        ensures again { result ≡ delivers_again verdict.now self.old.entries }
+        ensures counted { IsTrue result → self.new ≡ with_verdict verdict.now self.old }
+        ensures unchanged { result ≡ false → self.new ≡ self.old }
+    {
+        let Verdict::Deliver {
+            group,
+            member,
+            to: _,
+            bytes,
+        } = *verdict
+        else {
+            return false;
+        };
+        if !self.is_last(&group, member) {
+            return false;
+        }
+        self.last.counts.deliver(bytes as u64, &mut self.ended);
+        true
+    }
+
+    // Counts a dropped packet in the same way.
+    fn dropped_again(&mut self, group: &Endpoint, member: u32) -> bool
         ensures has_key { result ≡ last_has (member_key group.now member) self.old.entries }
-        ensures counted { IsTrue result → self.new ≡ with_counts (member_key group.now member) counts sent self.old }
+        ensures counted { IsTrue result → self.new ≡ with_counts (member_key group.now member) dropped_one false self.old }
         ensures unchanged { result ≡ false → self.new ≡ self.old }
     {
         if !self.is_last(group, member) {
             return false;
         }
-        self.last.counts.add(counts);
-        self.sent = sent;
+        let counts = self.last.counts.plus(one_dropped());
+        self.ended = ended_after(&counts, false);
+        self.last.counts = counts;
         true
-    }
-
-    // The same as `judged_again`. It is not inlined, so that `judged_again` is short, and takes the verdict by value, so
-    // that the caller need not have it in memory.
-    #[inline(never)]
-    fn any_judged_again(&mut self, verdict: Verdict) -> bool
-        ensures needs_no_room { result ≡ begins_no_run verdict self.old.entries }
-        ensures counted { IsTrue result → self.new ≡ with_verdict verdict self.old }
-        ensures unchanged { result ≡ false → self.new ≡ self.old }
-    {
-        match verdict {
-            Verdict::Malformed | Verdict::NoGroup | Verdict::NoMembers => true,
-            Verdict::Dropped { group, member } => {
-                self.add_again(&group, member, one_dropped(), false)
-            }
-            Verdict::Deliver {
-                group,
-                member,
-                to: _,
-                bytes,
-            } => self.add_again(&group, member, one_delivered(bytes), true),
-        }
     }
 
     /// Counts a verdict if no run is begun for it: it names no member, or the member of the last run. Returns whether
     /// it is counted. It needs no room; if it returns false, make room and call `judged`.
-    #[inline(always)]
     pub fn judged_again(&mut self, verdict: &Verdict) -> bool
         ensures needs_no_room { result ≡ begins_no_run verdict.now self.old.entries }
         ensures counted { IsTrue result → self.new ≡ with_verdict verdict.now self.old }
         ensures unchanged { result ≡ false → self.new ≡ self.old }
     {
-        if let Verdict::Deliver {
-            group,
-            member,
-            to: _,
-            bytes,
-        } = verdict
-        {
-            return self.add_again(group, *member, one_delivered(*bytes), true);
+        match *verdict {
+            Verdict::Malformed | Verdict::NoGroup | Verdict::NoMembers => true,
+            Verdict::Dropped { group, member } => self.dropped_again(&group, member),
+            Verdict::Deliver { .. } => self.delivered_again(verdict),
         }
-        self.any_judged_again(*verdict)
     }
 
     /// Counts a verdict if it names a member.
@@ -311,15 +351,15 @@ impl VerdictLog {
     pub fn send_failed(&mut self)
         ensures { self.new ≡ marked_failed self.old }
     {
-        if !self.sent {
+        if self.ended == self.last.counts.delivered {
             return;
         }
-        self.sent = false;
         let counts = Counts {
             send_failed: 1,
             ..Counts::none()
         };
         self.last.counts = self.last.counts.plus(counts);
+        self.ended = ended_after(&self.last.counts, false);
     }
 
     /// Removes all runs.
@@ -330,7 +370,8 @@ impl VerdictLog {
         self.last = Run::nothing();
         self.has_last = false;
         self.member = NO_MEMBER;
-        self.sent = false;
+        self.group = 0;
+        self.ended = 0;
         self.left = self.room;
     }
 }

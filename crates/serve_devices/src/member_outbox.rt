@@ -106,6 +106,9 @@ impl<'a, E: Egress + Drop, R: Wait> MemberOutbox<'a, E, R> {
         ensures unchanged { self.new.outbox ≡ self.old.outbox }
         ensures logged { Logs (with_verdict verdict) self.old.log self.new.log }
     {
+        if self.log.judged_again(&verdict) {
+            return;
+        }
         self.make_room();
         self.log.judged(&verdict);
     }
@@ -130,7 +133,7 @@ impl<'a, E: Egress + Drop, R: Wait> Outbox for MemberOutbox<'a, E, R> {
         ensures unchanged { self.new.outbox ≡ self.old.outbox }
         ensures logged { Logs (with_verdict verdict.now) self.old.log self.new.log }
     {
-        if !self.log.judged_again(verdict) {
+        if !self.log.delivered_again(verdict) {
             self.begin_run(*verdict);
         }
     }
