@@ -96,12 +96,7 @@ fn begin_run(log: &mut VerdictLog, verdict: &Verdict) {
 
 // Judges the packet and counts the verdict in the log, if there is room.
 #[inline]
-fn judge_and_log(
-    worker: &mut Worker,
-    packet: &[u8],
-    verdict: &mut Verdict,
-    log: &mut VerdictLog,
-)
+fn judge_and_log(worker: &mut Worker, packet: &[u8], verdict: &mut Verdict, log: &mut VerdictLog)
     requires { length packet.now ≤ 65535 }
 {
     judge_in_section(worker, packet, verdict);

@@ -131,15 +131,15 @@ impl Model for VerdictLog {
     ghost Value = { Log };
 
     ghost view = { λ log. record {
-        entries = runs log.earlier.items log.has_last log.last;
-        room = log.room;
-        sent = is_sent log.last.counts.delivered log.ended;
+      entries = runs log.earlier.items log.has_last log.last;
+      room = log.room;
+      sent = is_sent log.last.counts.delivered log.ended;
     } };
 
     ghost invariant = { λ log. (length (runs log.earlier.items log.has_last log.last) + log.left ≡ log.room)
         × (log.room ≤ vec_capacity log.earlier)
         × (log.has_last ≡ false → (length log.earlier.items ≡ 0) × (is_sent log.last.counts.delivered log.ended ≡ false)
-            × (log.last.key.member ≡ None))
+        × (log.last.key.member ≡ None))
         × (log.member ≡ number_of log.last.key.member)
         × (log.group ≡ group_number log.last.key.group)
         × (log.last.key.group.address < 2 ^ 32)
