@@ -12,17 +12,17 @@ use packet_verdict::{Kind, Verdict, judge};
 use read_section::Worker;
 
 // One whole section, in which the packet is judged. Not inlined: in a function that does no more, the section's state lies in registers
-// while a program runs.
+// while a program runs. The verdict is written where the caller wants it, so that the caller loads no field that it does not read.
 #[inline(never)]
-fn judge_in_section(worker: &mut Worker, packet: &[u8]) -> Verdict
+fn judge_in_section(worker: &mut Worker, packet: &[u8], judged: &mut Verdict)
     requires packet { length packet.now ≤ MAX_PACKET }
-    ensures judged { JudgesInSection worker.old worker.new packet.now result }
-    ensures kept { KeepsNoMore result packet.now }
+    ensures judged { JudgesInSection worker.old worker.new packet.now judged.new }
+    ensures kept { KeepsNoMore judged.new packet.now }
 {
     let mut section = worker.enter();
     let verdict = judge(&mut section, packet);
+    *judged = verdict;
     section.leave();
-    verdict
 }
 
 // Sends what the verdict keeps of the packet, if the verdict delivers it. A failed send is counted.
@@ -66,7 +66,8 @@ pub fn handle<O: VerdictOutbox>(
     ensures not_counted { OnErr result (IsNotCounted worker.old worker.new counter.old counter.new
         (O.state outbox.old) (O.state outbox.new) (O.told outbox.old) (O.told outbox.new) packet.now) }
 {
-    let verdict = judge_in_section(worker, packet);
+    let mut verdict = Verdict::Malformed;
+    judge_in_section(worker, packet, &mut verdict);
     counter.count(verdict.kind())?;
     outbox.tell(verdict, packet);
     deliver(verdict, packet, counter, outbox)

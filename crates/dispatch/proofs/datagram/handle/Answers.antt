@@ -11,9 +11,9 @@ use Rattle.dispatch.proofs.datagram.handle.Goals as goal
 
 pub returns-in_err-count-clause-not_counted : goal.returns-in_err-count-clause-not_counted
 returns-in_err-count-clause-not_counted g c =
-    let judged = c.judge_in_section-verdict.ensures.judged in
+    let judged = c.judge_in_section.ensures.judged in
     on_err c.from_residual.result (record {
-      judged = record { packet = c.args.packet.now; inside = judged.0; after = c.judge_in_section-verdict.new.worker; verdict = c.judge_in_section-verdict.result; failed = false };
+      judged = record { packet = c.args.packet.now; inside = judged.0; after = c.judge_in_section.new.worker; verdict = c.judge_in_section.new.judged; failed = false };
       packet_is = refl;
       own_section = judged.1 false;
       after = refl;
@@ -26,9 +26,9 @@ returns-in_err-count-clause-not_counted g c =
 
 pub returns-clause-handled : goal.returns-clause-handled
 returns-clause-handled g c =
-    let judged = c.judge_in_section-verdict.ensures.judged in
+    let judged = c.judge_in_section.ensures.judged in
     on_ok_too c.deliver.result c.deliver.ensures.delivered (λ sent. record {
-      judged = record { packet = c.args.packet.now; inside = judged.0; after = c.judge_in_section-verdict.new.worker; verdict = c.judge_in_section-verdict.result; failed = sent.failed };
+      judged = record { packet = c.args.packet.now; inside = judged.0; after = c.judge_in_section.new.worker; verdict = c.judge_in_section.new.judged; failed = sent.failed };
       packet_is = refl;
       own_section = judged.1 sent.failed;
       after = refl;
@@ -36,17 +36,17 @@ returns-clause-handled g c =
           ∙ ap (λ (counter : CounterValue). counted_if sent.failed kind.SendFailed counter)
           (c.in_ok-count.ensures.one_count ∙ ap (λ (k : Kind). counted_as k c.args.counter.now) c.kind.ensures);
       sent_once = subst (λ (o : OutboxValue). Takes o.taken (g.O.VerdictOutbox.state c.deliver.new.outbox).taken
-          (sent_unless sent.failed (delivery c.judge_in_section-verdict.result c.args.packet.now))) c.tell.ensures.unchanged sent.sent_once;
+          (sent_unless sent.failed (delivery c.judge_in_section.new.judged c.args.packet.now))) c.tell.ensures.unchanged sent.sent_once;
       outbox_failures = let fails = sent.outbox_failures in let still = ap (λ (o : OutboxValue). o.failures) c.tell.ensures.unchanged in omega arith;
       told_once = takes_more (g.O.VerdictOutbox.told c.args.outbox.now) (g.O.VerdictOutbox.told c.tell.new.self) (g.O.VerdictOutbox.told c.deliver.new.outbox)
-          (judged_as c.judge_in_section-verdict.result c.args.packet.now ∷ []) (failure_told sent.failed) c.tell.ensures.told_once sent.told_once;
+          (judged_as c.judge_in_section.new.judged c.args.packet.now ∷ []) (failure_told sent.failed) c.tell.ensures.told_once sent.told_once;
     })
 
 pub returns-clause-not_counted : goal.returns-clause-not_counted
 returns-clause-not_counted g c =
-    let judged = c.judge_in_section-verdict.ensures.judged in
+    let judged = c.judge_in_section.ensures.judged in
     on_err_too c.deliver.result c.deliver.ensures.undelivered (λ unsent. record {
-      judged = record { packet = c.args.packet.now; inside = judged.0; after = c.judge_in_section-verdict.new.worker; verdict = c.judge_in_section-verdict.result; failed = true };
+      judged = record { packet = c.args.packet.now; inside = judged.0; after = c.judge_in_section.new.worker; verdict = c.judge_in_section.new.judged; failed = true };
       packet_is = refl;
       own_section = judged.1 true;
       after = refl;
@@ -55,5 +55,5 @@ returns-clause-not_counted g c =
       sent_nothing = subst (λ (o : OutboxValue). Takes o.taken (g.O.VerdictOutbox.state c.deliver.new.outbox).taken []) c.tell.ensures.unchanged unsent.sent_nothing;
       outbox_failures = let one = unsent.one_failure in let still = ap (λ (o : OutboxValue). o.failures) c.tell.ensures.unchanged in omega arith;
       told_once = takes_more (g.O.VerdictOutbox.told c.args.outbox.now) (g.O.VerdictOutbox.told c.tell.new.self) (g.O.VerdictOutbox.told c.deliver.new.outbox)
-          (judged_as c.judge_in_section-verdict.result c.args.packet.now ∷ []) (send_failed ∷ []) c.tell.ensures.told_once unsent.told_once;
+          (judged_as c.judge_in_section.new.judged c.args.packet.now ∷ []) (send_failed ∷ []) c.tell.ensures.told_once unsent.told_once;
     })
