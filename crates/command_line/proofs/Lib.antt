@@ -1,4 +1,6 @@
 mod CommandLineLemmas
+mod MetLemmas
+mod NamedLemmas
 pub mod EndingLemmas
 mod StandardFacts
 mod BuilderLemmas

@@ -1,5 +1,5 @@
 -- Reading the words of `spread`.
-use Rattle.std.proofs.Common.{◌≡◌, ◌∙◌, ◌∷◌, ◌++◌, ◌&&◌, ◌-◌, ◌<◌, ◌≤◌, ◌^◌, ◌↔◌, [], Bool, Bor, List, None, Option, Some, ap, append_assoc, arith, cond, drop, false, get_or, length, map, nat_le, nat_lt, option_map, refl, sum, sym, take, true, ℕ}
+use Rattle.std.proofs.Common.{◌≡◌, ◌∙◌, ◌∷◌, ◌++◌, ◌-◌, ◌<◌, ◌≤◌, ◌^◌, ◌↔◌, [], Bool, Bor, List, None, Option, Some, ap, append_assoc, arith, cond, drop, false, get_or, length, map, nat_le, nat_lt, option_map, refl, sum, sym, take, true, ℕ}
 use Rattle.std.specs.Prelude.{option_and_then}
 use Rattle.std.specs.Str.Parse.{IsNumeral, digits_value, without_leading_plus}
 use Rattle.std.proofs.Math.Seq.{take-length}

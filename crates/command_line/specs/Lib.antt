@@ -1,5 +1,6 @@
 pub mod ControlAddress
 pub mod Shares
+pub mod Arguments
 pub mod CommandLine
 pub mod Ending
 pub mod Input

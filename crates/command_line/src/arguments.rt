@@ -2,7 +2,7 @@
 
 ghost use Rattle.std.specs.Prelude.{◌≡◌, codes, false};
 ghost use Rattle.clap.specs.Words.{rule_of};
-ghost use Rattle.command_line.specs.CommandLine.{any_number_of, count_argument, datagrams_argument, flag, interval_argument, named_argument, receive_buffer_argument, required_argument, required_named_argument, some_number_of, timeout_argument, unwrap_argument, workers_argument};
+ghost use Rattle.command_line.specs.Arguments.{any_number_of, count_argument, datagrams_argument, flag, interval_argument, named_argument, receive_buffer_argument, required_argument, required_named_argument, some_number_of, timeout_argument, unwrap_argument, workers_argument};
 
 use crate::command::{MAX_DATAGRAMS, MAX_INTERVAL, MAX_PORT, MAX_TIMEOUT};
 use crate::receive::MAX_RECEIVE_BUFFER;

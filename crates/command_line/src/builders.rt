@@ -3,7 +3,7 @@
 ghost use Rattle.std.specs.Prelude.{◌≡◌, IfOk, false};
 ghost use Rattle.clap.specs.Words.{App, Rule, app_of, new_app, rule_of, with_rule, with_subcommand};
 ghost use Rattle.clap.specs.declared.builder.command.Command.TheViews.{out-Command};
-ghost use Rattle.command_line.specs.CommandLine.{check_line, command_line, compile_line, drain_line, explain_line, flood_line, load_line, metrics_line, pack_line, packets_line, replay_line, rules_line, run_line, serve_line, spread_line, tell_line, top_line, without_commands};
+ghost use Rattle.command_line.specs.Arguments.{check_line, command_line, compile_line, drain_line, explain_line, flood_line, load_line, metrics_line, pack_line, packets_line, replay_line, rules_line, run_line, serve_line, spread_line, tell_line, top_line, without_commands};
 ghost use Rattle.command_line.specs.body.Half.{with_queries, with_rules, with_workers};
 
 use crate::arguments::{

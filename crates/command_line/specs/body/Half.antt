@@ -1,6 +1,6 @@
 -- The program with some of its commands.
 use Rattle.clap.specs.Words.{App, with_subcommand}
-use Rattle.command_line.specs.CommandLine.{check_line, compile_line, drain_line, explain_line, first_line, flood_line, load_line, pack_line, packets_line, replay_line, rules_line, run_line, serve_line, spread_line, tell_line, without_commands}
+use Rattle.command_line.specs.Arguments.{check_line, compile_line, drain_line, explain_line, first_line, flood_line, load_line, pack_line, packets_line, replay_line, rules_line, run_line, serve_line, spread_line, tell_line, without_commands}
 
 -- those up to `spread`
 abbrev pub with_queries : App

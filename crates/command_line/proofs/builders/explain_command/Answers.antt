@@ -1,6 +1,6 @@
 use Rattle.std.proofs.Common.{codes}
 use Rattle.clap.specs.Words.{new_app}
-use Rattle.command_line.specs.CommandLine.{some_number_of}
+use Rattle.command_line.specs.Arguments.{some_number_of}
 use Rattle.command_line.proofs.builders.explain_command.Goals as goal
 
 pub returns-clause-app : goal.returns-clause-app

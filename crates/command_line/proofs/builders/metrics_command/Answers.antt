@@ -1,6 +1,6 @@
 use Rattle.std.proofs.Common.{codes}
 use Rattle.clap.specs.Words.{App, new_app, with_rule}
-use Rattle.command_line.specs.CommandLine.{named_argument, required_named_argument, timeout_argument}
+use Rattle.command_line.specs.Arguments.{named_argument, required_named_argument, timeout_argument}
 use Rattle.command_line.proofs.builders.metrics_command.Goals as goal
 
 pub returns-clause-app : goal.returns-clause-app

@@ -1,6 +1,6 @@
 use Rattle.std.proofs.Common.{codes}
 use Rattle.clap.specs.Words.{new_app}
-use Rattle.command_line.specs.CommandLine.{unwrap_argument}
+use Rattle.command_line.specs.Arguments.{unwrap_argument}
 use Rattle.command_line.proofs.builders.packets_command.Goals as goal
 
 pub returns-clause-app : goal.returns-clause-app

@@ -1,5 +1,5 @@
 use Rattle.clap.specs.Words.{App}
-use Rattle.command_line.specs.CommandLine.{metrics_line, top_line}
+use Rattle.command_line.specs.Arguments.{metrics_line, top_line}
 use Rattle.command_line.specs.body.Half.{with_rules}
 use Rattle.command_line.proofs.BuilderLemmas.{and, both}
 use Rattle.command_line.proofs.builders.program.Goals as goal

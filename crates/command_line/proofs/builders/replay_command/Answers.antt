@@ -1,6 +1,6 @@
 use Rattle.std.proofs.Common.{codes}
 use Rattle.clap.specs.Words.{App, new_app, with_rule}
-use Rattle.command_line.specs.CommandLine.{flag}
+use Rattle.command_line.specs.Arguments.{flag}
 use Rattle.command_line.proofs.builders.replay_command.Goals as goal
 
 pub returns-clause-app : goal.returns-clause-app

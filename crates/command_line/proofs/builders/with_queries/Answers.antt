@@ -1,5 +1,5 @@
 use Rattle.clap.specs.Words.{App}
-use Rattle.command_line.specs.CommandLine.{check_line, compile_line, explain_line, first_line, pack_line, run_line, spread_line, without_commands}
+use Rattle.command_line.specs.Arguments.{check_line, compile_line, explain_line, first_line, pack_line, run_line, spread_line, without_commands}
 use Rattle.command_line.proofs.BuilderLemmas.{and, both}
 use Rattle.command_line.proofs.builders.with_queries.Goals as goal
 

@@ -1,5 +1,5 @@
 use Rattle.clap.specs.Words.{App}
-use Rattle.command_line.specs.CommandLine.{drain_line, load_line, rules_line, tell_line}
+use Rattle.command_line.specs.Arguments.{drain_line, load_line, rules_line, tell_line}
 use Rattle.command_line.specs.body.Half.{with_workers}
 use Rattle.command_line.proofs.BuilderLemmas.{and, both}
 use Rattle.command_line.proofs.builders.with_rules.Goals as goal

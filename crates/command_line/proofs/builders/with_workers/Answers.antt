@@ -1,5 +1,5 @@
 use Rattle.clap.specs.Words.{App}
-use Rattle.command_line.specs.CommandLine.{flood_line, packets_line, replay_line, serve_line}
+use Rattle.command_line.specs.Arguments.{flood_line, packets_line, replay_line, serve_line}
 use Rattle.command_line.specs.body.Half.{with_queries}
 use Rattle.command_line.proofs.BuilderLemmas.{and, both}
 use Rattle.command_line.proofs.builders.with_workers.Goals as goal

@@ -1,7 +1,8 @@
 use Rattle.std.proofs.Common.{inl, inr, map, None, Some, string_bytes, is_some, ◌≡◌, ◌∙◌, ap, subst, sym, []}
 use Rattle.std.specs.Option.{option_map}
 use Rattle.clap.specs.Words.{App, HasKind, IsAmong, app_of, fault_of, found_of, is_simple, is_simple_and_free, kind_of, rows_of, subcommand_of}
-use Rattle.command_line.specs.CommandLine.{command_in, command_line, command_of, faults_in, way_faults}
+use Rattle.command_line.specs.Arguments.{command_line}
+use Rattle.command_line.specs.CommandLine.{command_in, command_of, faults_in, way_faults}
 use Rattle.command_line.proofs.CommandLineLemmas.{fails_by, no_faults, way_is_refused, kind_or_else, command_is}
 use Rattle.command_line.proofs.found.read_words.Goals as goal
 

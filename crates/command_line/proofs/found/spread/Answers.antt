@@ -1,4 +1,4 @@
-use Rattle.std.proofs.Common.{◌∙◌, Bor, List, ap, codes, map, ℕ}
+use Rattle.std.proofs.Common.{◌∙◌, Bor, List, ap, map, ℕ}
 use Rattle.std.proofs.lemmas.Result.{IfOk-weaker}
 use Rattle.clap.specs.Words.{found_of, rows_of}
 use Rattle.command_line.proofs.CommandLineLemmas.{spread_none, spread_some}
