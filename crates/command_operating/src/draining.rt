@@ -11,11 +11,12 @@ ghost use Rattle.command_operating.specs.Showing.{EndsInRulesFailure};
 
 use crate::loading::version_line;
 use crate::printing::print_line;
+use crate::reaching::client_of;
 use crate::refuse_address;
 use crate::reporting::reported;
 use command_line::{ControlAddress, Failure, Status};
-use control_client::{Reach, SocketWire};
-use control_rules::{Client, DrainRefusal, Drained, drain};
+use control_client::Reach;
+use control_rules::{DrainRefusal, Drained, drain};
 use ipv4_fields::{Endpoint, read_number};
 use std::alloc::{AllocError, Global};
 use std::cell::Cell;
@@ -83,8 +84,7 @@ fn drained_from<R: Net + Clock>(
 ) -> Result<Drained, Failure>
     ensures drained { IfOk result (DrainsFrom (peer_of reach.entry.address) member.0 member.1) }
 {
-    let wire = SocketWire::open(rt, alloc, reach)?;
-    let mut client = Client::new(alloc, wire, reach.peer())?;
+    let mut client = client_of(rt, alloc, reach)?;
     drain(rt, &mut client, member.0, member.1)
 }
 

@@ -13,6 +13,7 @@ mod draining;
 mod loading;
 mod measuring;
 mod printing;
+mod reaching;
 mod refused;
 mod reporting;
 mod rules_file;

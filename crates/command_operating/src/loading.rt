@@ -14,13 +14,14 @@ ghost use Rattle.command_operating.specs.Showing.{AreChangesTo, EndsInRulesFailu
 ghost use Rattle.command_operating.specs.body.Asked.{IsAsked};
 
 use crate::printing::{print_line, print_text};
+use crate::reaching::client_of;
 use crate::refuse_address;
 use crate::refused::write_flushed;
 use crate::reporting::reported;
 use crate::rules_file::{RulesFile, open_file};
 use command_explain::{file_fault_text, shown_code};
 use command_line::{ControlAddress, Failure, Status};
-use control_client::{Reach, SocketWire};
+use control_client::{Reach, Wire};
 use control_line::Reply;
 use control_rules::{Client, Loaded, differences, load};
 use member_group::Config;
@@ -76,7 +77,25 @@ pub(crate) fn version_line(version: u64, rest: &str) -> Reply
     line
 }
 
-// Prints the lines that lead from the rules of a switch to a configuration.
+// Prints the lines that lead from the rules of a client's switch to a configuration.
+fn print_differences<D: Wire + Drop, W: Write>(
+    client: &mut Client<D>,
+    config: &Config,
+    out: &mut W,
+) -> Result<Status, Failure>
+    ensures done { IfOk result (λ status. status ≡ Status.Done) }
+    ensures shown { OnOk result ((changes : List ℕ) × AreChangesTo client.old.switch config.now changes
+        × Appends (W.contents out.old) (W.contents out.new) changes) }
+    ensures unwritten { IfErr result (λ failure. failure ≢ Failure.WriteFailed → out.new ≡ out.old) }
+{
+    let Some(changes) = differences(client, config)? else {
+        return Err(Failure::RulesChanged);
+    };
+    print_text(&changes, out)?;
+    Ok(Status::Done)
+}
+
+// The same for the switch at an address.
 fn print_changes<R: Net + Clock, W: Write>(
     rt: &R,
     alloc: Global,
@@ -89,13 +108,8 @@ fn print_changes<R: Net + Clock, W: Write>(
         × Appends (W.contents out.old) (W.contents out.new) changes) }
     ensures unwritten { IfErr result (λ failure. failure ≢ Failure.WriteFailed → out.new ≡ out.old) }
 {
-    let wire = SocketWire::open(rt, alloc, reach)?;
-    let mut client = Client::new(alloc, wire, reach.peer())?;
-    let Some(changes) = differences(&mut client, config)? else {
-        return Err(Failure::RulesChanged);
-    };
-    print_text(&changes, out)?;
-    Ok(Status::Done)
+    let mut client = client_of(rt, alloc, reach)?;
+    print_differences(&mut client, config, out)
 }
 
 fn show_changes<R: Net + Clock, W: Write, E: Write>(
@@ -153,8 +167,7 @@ fn replaced<R: Net + Clock>(
     requires { IsConfigOf file.now.text.items file.now.config }
     ensures loaded { IfOk result (LoadsInto (peer_of reach.entry.address) file.now.text.items file.now.config) }
 {
-    let wire = SocketWire::open(rt, alloc, reach)?;
-    let mut client = Client::new(alloc, wire, reach.peer())?;
+    let mut client = client_of(rt, alloc, reach)?;
     load(rt, &mut client, &file.text, &file.config)
 }
 

@@ -11,11 +11,12 @@ ghost use Rattle.command_operating.specs.Showing.{EndsInRulesFailure};
 ghost use Rattle.command_operating.specs.body.Front.{IsFrontOf, IsGivenFront, PrintsMetrics};
 
 use crate::printing::print_text;
+use crate::reaching::client_of;
 use crate::refuse_address;
 use crate::reporting::report;
 use crate::rules_file::open_failure;
 use command_line::{ControlAddress, Failure, Status, read_whole};
-use control_client::{Reach, SocketWire};
+use control_client::{Reach, Wire};
 use control_counters::read_counters;
 use control_rules::Client;
 use counter_text::{Counters, FrontDrops, drops_at, metrics_text};
@@ -30,16 +31,22 @@ use std::time::Clock;
 // The kernel's table of UDP sockets.
 const SOCKETS: &str = "/proc/net/udp";
 
-// The counters of a switch.
-fn counters_of<R: Net + Clock>(rt: &R, alloc: Global, reach: Reach<'_>) -> Result<Counters, Failure>
-    ensures { IfOk result (λ counters. WatchesOf (peer_of reach.entry.address) (λ history told. AreCountersOf history told counters)) }
+// The counters of a client's switch.
+fn read_all<R: Clock, D: Wire + Drop>(rt: &R, client: &mut Client<D>) -> Result<Counters, Failure>
+    ensures { IfOk result (λ counters. WatchesOf client.old.switch (λ history told. AreCountersOf history told counters)) }
 {
-    let wire = SocketWire::open(rt, alloc, reach)?;
-    let mut client = Client::new(alloc, wire, reach.peer())?;
-    match read_counters(rt, &mut client, None)? {
+    match read_counters(rt, client, None)? {
         Some(reading) => Ok(reading.counters),
         None => Err(Failure::RulesChanged),
     }
+}
+
+// The counters of the switch at an address.
+fn counters_of<R: Net + Clock>(rt: &R, alloc: Global, reach: Reach<'_>) -> Result<Counters, Failure>
+    ensures { IfOk result (λ counters. WatchesOf (peer_of reach.entry.address) (λ history told. AreCountersOf history told counters)) }
+{
+    let mut client = client_of(rt, alloc, reach)?;
+    read_all(rt, &mut client)
 }
 
 // How many datagrams the kernel dropped at a front.

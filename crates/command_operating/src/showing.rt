@@ -7,10 +7,11 @@ ghost use Rattle.command_operating.specs.Showing.{EndsInRulesFailure, IsRulesOf,
 ghost use Rattle.control_client.specs.Wire.{peer_of};
 
 use crate::printing::print_text;
+use crate::reaching::client_of;
 use crate::refuse_address;
 use crate::reporting::report;
 use command_line::{ControlAddress, Failure, Status};
-use control_client::{Reach, SocketWire};
+use control_client::{Reach, Wire};
 use control_rules::{Client, read_rules};
 use std::alloc::Global;
 use std::cell::Cell;
@@ -18,17 +19,22 @@ use std::io::Write;
 use std::net::Net;
 use std::time::Clock;
 
-// The rules of a switch, as a rules file.
-#[tactic(auto, using(crate::proofs::ShowingLemmas::rules_learned))]
-fn rules_of<R: Net + Clock>(rt: &R, alloc: Global, reach: Reach<'_>) -> Result<Vec<u8>, Failure>
-    ensures { IfOk result (λ text. IsRulesOf (peer_of reach.entry.address) text.items) }
+// The rules of a client's switch, as a rules file.
+fn rules_text<D: Wire + Drop>(client: &mut Client<D>) -> Result<Vec<u8>, Failure>
+    ensures { IfOk result (λ text. IsRulesOf client.old.switch text.items) }
 {
-    let wire = SocketWire::open(rt, alloc, reach)?;
-    let mut client = Client::new(alloc, wire, reach.peer())?;
-    match read_rules(&mut client)? {
+    match read_rules(client)? {
         Some(rules) => Ok(rules.text),
         None => Err(Failure::RulesChanged),
     }
+}
+
+// The same of the switch at an address.
+fn rules_of<R: Net + Clock>(rt: &R, alloc: Global, reach: Reach<'_>) -> Result<Vec<u8>, Failure>
+    ensures { IfOk result (λ text. IsRulesOf (peer_of reach.entry.address) text.items) }
+{
+    let mut client = client_of(rt, alloc, reach)?;
+    rules_text(&mut client)
 }
 
 /// Runs `rules` with the text of the switch's address, and the seconds for a reply.

@@ -11,10 +11,11 @@ ghost use Rattle.command_operating.specs.Measured.{EndsInTopFailure, WritesScree
 ghost use Rattle.command_operating.specs.body.Screens.{Shows, ShowsFewer, ShowsMore};
 
 use crate::printing::print_text;
+use crate::reaching::client_of;
 use crate::refuse_address;
 use crate::reporting::report;
 use command_line::{ControlAddress, Failure, Status, write_whole};
-use control_client::{Reach, SocketWire, Wire};
+use control_client::{Reach, Wire};
 use control_counters::{Reading, read_counters};
 use control_rules::Client;
 use counter_text::{Counters, screen_text};
@@ -154,8 +155,7 @@ fn print_top<R: Net + Clock, W: Write>(
     ensures fewer { IfErr result (λ failure. failure ≢ Failure.WriteFailed
         → ShowsFewer watching.entry.clears watching.entry.count (peer_of reach.entry.address) (W.contents out.old) (W.contents out.new)) }
 {
-    let wire = SocketWire::open(rt, alloc, reach)?;
-    let mut client = Client::new(alloc, wire, reach.peer())?;
+    let mut client = client_of(rt, alloc, reach)?;
     print_screens(rt, alloc, &mut client, watching, out)
 }
 

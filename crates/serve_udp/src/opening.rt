@@ -1,10 +1,12 @@
 //! The service before it receives: its jobs are made.
 
-ghost use Rattle.std.specs.Prelude.{◌≡◌, ◌≢◌, ◌≤◌, IfErr, IfOk, length, vec_len};
+ghost use Rattle.std.specs.Prelude.{◌≡◌, ◌≢◌, ◌≤◌, IfErr, IfOk, List, Ok, length, vec_len};
 ghost use Rattle.std.specs.List.{All};
 ghost use Rattle.member_group.specs.Charge.{charge_of};
 ghost use Rattle.versions.specs.declared.layout.TheConstants.{CHARGE_LIMIT, WORKERS};
+ghost use Rattle.config_image.specs.Image.{Group};
 ghost use Rattle.dispatch.specs.Counted.{IsNewWorker};
+ghost use Rattle.dispatch.specs.Tally.{AreOpenedCounters};
 ghost use Rattle.serve_udp.specs.Service.{IsServeFailure};
 ghost use Rattle.serve_udp.specs.body.Jobs.{AreMade, AreOpened, HaveNewWorkers};
 
@@ -71,6 +73,99 @@ fn open_sockets<'a, N: Net>(
     }
 }
 
+// The ends of the table and of the tally: places and counters for all workers.
+#[derive(Drop)]
+struct Ends {
+    operator: Operator,
+    seats: Vec<Worker>,
+    tally: Tally,
+    counters: Vec<Counter>,
+}
+
+fn open_ends(config: Config) -> Result<Ends, Failure>
+    requires within { charge_of config ≤ CHARGE_LIMIT }
+    ensures workers { IfOk result (λ ends. vec_len ends.seats ≡ WORKERS) }
+    ensures opening { IfOk result (λ ends. All (IsNewWorker config ends.operator.table) ends.seats.items) }
+    ensures counters { IfOk result (λ ends. AreOpenedCounters ends.tally.table ends.counters.items) }
+    ensures no_input { IfErr result IsServeFailure }
+{
+    let alloc = *config.allocator();
+    let Ok((operator, seats)) = open_table(config) else {
+        return Err(Failure::OutOfMemory);
+    };
+    let Ok((tally, counters)) = Tally::open(alloc) else {
+        return Err(Failure::OutOfMemory);
+    };
+    Ok(Ends {
+        operator,
+        seats,
+        tally,
+        counters,
+    })
+}
+
+// The jobs and the sockets, if both were made. They come untested, so that the caller may own much and fail at one place.
+fn both<'a, I: Ingress + Drop, R: Wait + Net>(
+    jobs: Result<Vec<ServiceJob<'a, I, R>>, Failure>,
+    sockets: Result<Sockets<'a>, Failure>,
+) -> Result<(Vec<ServiceJob<'a, I, R>>, Sockets<'a>), Failure>
+    ensures jobs { IfOk result (λ both. jobs.entry ≡ Ok both.0) }
+    ensures no_input { IfErr jobs.entry IsServeFailure → IfErr sockets.entry IsServeFailure → IfErr result IsServeFailure }
+{
+    let jobs = jobs?;
+    Ok((jobs, sockets?))
+}
+
+// The same as `open_service`, over the ends of the table and of the tally.
+fn open_over<'a, I: Ingress + Drop, R: Wait + Net>(
+    rt: &'a R,
+    alloc: Global,
+    counts: &'a SharedCounts,
+    ends: Ends,
+    intake: Intake<'a, I>,
+    sockets: ServiceSockets,
+    workers: usize,
+) -> Result<(Vec<ServiceJob<'a, I, R>>, Service<'a>), Failure>
+    requires places { vec_len ends.seats ≡ WORKERS }
+    requires counters { AreOpenedCounters ends.tally.table ends.counters.items }
+    requires at_most { workers ≤ WORKERS }
+    requires sources { length intake.sources.items ≡ workers }
+    requires outlets { workers ≤ vec_len sockets.outlets }
+    ensures one_a_worker { IfOk result (λ opened. vec_len opened.0 ≡ workers) }
+    ensures new_workers { (opening : List Group) → All (IsNewWorker opening ends.operator.table) ends.seats.items
+        → IfOk result (λ opened. HaveNewWorkers opening opened.1.receiver.operator.table opened.0.items) }
+    ensures opened { IfOk result (λ opened. AreOpened opened.1.tally.table opened.1.spare.items intake.entry.sources.items opened.0.items) }
+    ensures no_input { IfErr result IsServeFailure }
+{
+    let Intake { sources, receiving } = intake;
+    let ServiceSockets {
+        address,
+        control,
+        outlets,
+    } = sockets;
+    let Ends {
+        operator,
+        mut seats,
+        tally,
+        counters: mut spare,
+    } = ends;
+    let stopped = receiving.stop.stopped;
+    let jobs = jobs(
+        rt, alloc, counts, stopped, &mut seats, &mut spare, sources, outlets, workers,
+    );
+    let sockets = open_sockets(rt, alloc, receiving, address, control);
+    let (jobs, sockets) = both(jobs, sockets)?;
+    let receiver = Receiver { sockets, operator };
+    Ok((
+        jobs,
+        Service {
+            tally,
+            spare,
+            receiver,
+        },
+    ))
+}
+
 /// Makes `workers` jobs, and all that they and receiving need. The jobs have new workers of the operator's table, which
 /// opens with the configuration, and new counters of the tally. They count by member in the shared table.
 pub fn open_service<'a, I: Ingress + Drop, R: Wait + Net>(
@@ -91,30 +186,6 @@ pub fn open_service<'a, I: Ingress + Drop, R: Wait + Net>(
     ensures no_input { IfErr result IsServeFailure }
 {
     let alloc = *config.allocator();
-    let Ok((operator, mut seats)) = open_table(config) else {
-        return Err(Failure::OutOfMemory);
-    };
-    let Ok((tally, mut spare)) = Tally::open(alloc) else {
-        return Err(Failure::OutOfMemory);
-    };
-    let Intake { sources, receiving } = intake;
-    let ServiceSockets {
-        address,
-        control,
-        outlets,
-    } = sockets;
-    let stopped = receiving.stop.stopped;
-    let jobs = jobs(
-        rt, alloc, counts, stopped, &mut seats, &mut spare, sources, outlets, workers,
-    )?;
-    let sockets = open_sockets(rt, alloc, receiving, address, control)?;
-    let receiver = Receiver { sockets, operator };
-    Ok((
-        jobs,
-        Service {
-            tally,
-            spare,
-            receiver,
-        },
-    ))
+    let ends = open_ends(config)?;
+    open_over(rt, alloc, counts, ends, intake, sockets, workers)
 }

@@ -1,10 +1,4 @@
-use Rattle.std.proofs.Common.{◌∙◌}
-use Rattle.control_client.specs.Wire.{peer_of}
-use Rattle.command_operating.proofs.ShowingLemmas.{changes_learned}
 use Rattle.command_operating.proofs.loading.print_changes.Goals as goal
 
 pub returns-clause-shown : goal.returns-clause-shown
-returns-clause-shown g c =
-    let read = rw c.in-Some.is at c.in_ok-changes.ensures.read in
-    let printed = rw c.deref.ensures.value at c.in_ok-print_text.ensures.printed in
-    (c.in-Some.changes.items, changes_learned _ _ (peer_of c.args.reach.address) c.args.config.now c.in-Some.changes.items (c.in_ok-client.ensures.switch ∙ c.peer.ensures) read, printed)
+returns-clause-shown g c = rw c.in_ok-client.ensures at c.print_differences.ensures.shown

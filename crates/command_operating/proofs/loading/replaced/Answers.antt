@@ -1,4 +1,3 @@
-use Rattle.std.proofs.Common.{◌∙◌}
 use Rattle.control_client.specs.Wire.{peer_of}
 use Rattle.command_operating.proofs.ShowingLemmas.{loaded_so}
 use Rattle.command_operating.proofs.loading.replaced.Goals as goal
@@ -6,4 +5,4 @@ use Rattle.command_operating.proofs.loading.replaced.Goals as goal
 pub returns : goal.returns
 returns g c =
     let loads = rw c.deref.ensures.value at c.load.ensures.loaded in
-    record { loaded = loaded_so _ _ (peer_of c.args.reach.address) c.args.file.now.text.items c.args.file.now.config c.load.result (c.in_ok-client.ensures.switch ∙ c.peer.ensures) loads }
+    record { loaded = loaded_so _ _ (peer_of c.args.reach.address) c.args.file.now.text.items c.args.file.now.config c.load.result c.in_ok-client.ensures loads }

@@ -1,11 +1,4 @@
-use Rattle.std.proofs.Common.{◌∙◌}
-use Rattle.control_client.specs.Wire.{peer_of}
-use Rattle.control_rules.proofs.FoundLemmas.{some_holds}
-use Rattle.control_counters.proofs.WatchLemmas.{watches_weaker}
-use Rattle.command_operating.proofs.MeasuringLemmas.{watched}
 use Rattle.command_operating.proofs.measuring.counters_of.Goals as goal
 
-pub returns-in-Some : goal.returns-in-Some
-returns-in-Some g c =
-    watched _ _ (peer_of c.args.reach.address) _ (c.in_ok-client.ensures.switch ∙ c.peer.ensures)
-    (watches_weaker _ _ _ _ (λ history told are it. some_holds _ _ c.in-Some.reading (it tt) c.in-Some.is) c.in_ok-reading.ensures)
+pub returns : goal.returns
+returns g c = rw c.in_ok-client.ensures at c.read_all.ensures
