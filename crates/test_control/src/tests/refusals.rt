@@ -9,7 +9,6 @@ use filter_parse::ParseFault;
 use filter_program::TextFault;
 use member_group::Refusal;
 use retire::PublishFault;
-use std::test::Fail;
 
 // No text is assembled to the instructions of V3 and V4, no line has a packet, and nothing publishes 2^48 versions.
 // Lack of memory is no reply.
@@ -40,16 +39,15 @@ const TEXTS: [(Reason, &str); 8] = [
 ];
 
 #[test]
-fn refusals_as_texts(rt: HostRuntime) -> Result<(), Fail> {
-    for (reason, text) in TEXTS {
-        assert_eq!(rt; format!(in rt.alloc(); "{reason}")?.as_str(), text);
+fn refusals_as_texts(rt: HostRuntime) {
+    for (reason, text) in &TEXTS {
+        let found = format!(in rt.alloc(); "{reason}").expect(&rt, "memory");
+        assert!(rt; found.as_str() == *text, "{text}");
     }
-    Ok(())
 }
 
 #[test]
-fn codes_with_and_without_a_place(rt: HostRuntime) -> Result<(), Fail> {
-    assert_eq!(rt; AsmFault::TooFar { line: 9 }.code(), Code::at('A', 5, 9));
-    assert_eq!(rt; Reason::BadForm.code(), Code::plain('C', 1));
-    Ok(())
+fn codes_with_and_without_a_place(rt: HostRuntime) {
+    assert!(rt; AsmFault::TooFar { line: 9 }.code() == Code::at('A', 5, 9));
+    assert!(rt; Reason::BadForm.code() == Code::plain('C', 1));
 }

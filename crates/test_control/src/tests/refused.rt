@@ -9,14 +9,10 @@ use std::process::Abort;
 // A line, and its reply.
 type Case = (&'static str, &'static str);
 
-fn expect(rt: &impl Abort, alloc: Global, operator: &mut Operator, text: &str, expected: &str) {
-    let reply = line(alloc, text.as_bytes(), operator).expect(rt, "the line is answered");
-    assert!(rt; reply.bytes() == expected.as_bytes(), "{text}");
-}
-
 fn expect_each(rt: &impl Abort, alloc: Global, operator: &mut Operator, session: &[Case]) {
     for (text, expected) in session {
-        expect(rt, alloc, operator, text, expected);
+        let reply = line(alloc, text.as_bytes(), operator).expect(rt, "the line is answered");
+        assert!(rt; reply.bytes() == expected.as_bytes(), "{text}");
     }
 }
 

@@ -1,8 +1,9 @@
 //! Rules files: the lines that count, the configuration that they make, and their faults.
 
+use control::Reason;
 use control_line::{RulesFault, fault_column, line_at, rules};
-use std::alloc::{AllocError, Global};
-use std::test::Fail;
+use std::alloc::Global;
+use std::process::Abort;
 
 // A file, and the groups, members and charge of its configuration (docs/COMMANDS.md, "Rules files"; SWITCH, "Groups, members, commands and refusals").
 const MADE: [(&[u8], (usize, usize, u64)); 9] = [
@@ -24,15 +25,12 @@ const MADE: [(&[u8], (usize, usize, u64)); 9] = [
 ];
 
 #[test]
-fn files_make_configurations(rt: HostRuntime) -> Result<(), Fail> {
-    for (text, measures) in MADE {
-        let Ok(config) = rules(rt.alloc(), text) else {
-            return Err(Fail::from("refused"));
-        };
+fn files_make_configurations(rt: HostRuntime) {
+    for (text, measures) in &MADE {
+        let config = rules(rt.alloc(), text).expect(&rt, "a configuration");
         let made = (config.groups().len(), config.members(), config.charge());
-        assert_eq!(rt; made, measures, "{text:?}");
+        assert!(rt; made == *measures, "{text:?}: {made:?}");
     }
-    Ok(())
 }
 
 // A file, the line that is refused, why, and the column for people.
@@ -70,27 +68,31 @@ const REFUSED: [(&[u8], u32, &str, usize); 16] = [
     (b"filter 10.0.0.2:53 1 asm ret #0\n", 1, "refused G1", 26),
 ];
 
-#[test]
-fn files_are_refused_at_a_line(rt: HostRuntime) -> Result<(), Fail> {
-    for (text, number, why, column) in REFUSED {
-        let Err(
+// The line that is refused, and why.
+fn refusal_of(rt: &impl Abort, alloc: Global, text: &[u8]) -> (u32, Reason) {
+    match rules(alloc, text) {
+        Err(
             RulesFault::Refused {
                 line: Some(line),
                 reason,
             },
-        ) = rules(rt.alloc(), text)
-        else {
-            return Err(Fail::from("not refused at a line"));
-        };
-        assert_eq!(rt; line, number, "{text:?}");
-        assert_eq!(rt; format!(in rt.alloc(); "{reason}")?.as_str(), why);
-        assert_eq!(rt;
-            fault_column(line_at(text, line), reason),
-            column,
+        ) => (line, reason),
+        _ => panic!(rt; "not refused at a line: {text:?}"),
+    }
+}
+
+#[test]
+fn files_are_refused_at_a_line(rt: HostRuntime) {
+    for (text, number, why, column) in &REFUSED {
+        let (line, reason) = refusal_of(&rt, rt.alloc(), text);
+        let found = format!(in rt.alloc(); "{reason}").expect(&rt, "memory");
+        assert!(rt; line == *number, "{text:?}");
+        assert!(rt; found.as_str() == *why, "{text:?}");
+        assert!(rt;
+            fault_column(line_at(text, line), reason) == *column,
             "{text:?}"
         );
     }
-    Ok(())
 }
 
 const NUMBERED: [(u32, &[u8]); 5] = [
@@ -112,66 +114,68 @@ fn lines_by_number(rt: HostRuntime) {
 }
 
 // Whether the whole file is refused, with this text.
-fn is_refused(alloc: Global, text: &[u8], why: &str) -> Result<bool, AllocError> {
+fn is_refused(rt: &impl Abort, alloc: Global, text: &[u8], why: &str) -> bool {
     match rules(alloc, text) {
         Err(RulesFault::Refused { line: None, reason }) => {
-            Ok(format!(in alloc; "{reason}")?.as_str() == why)
+            let found = format!(in alloc; "{reason}").expect(rt, "memory");
+            found.as_str() == why
         }
-        _ => Ok(false),
+        _ => false,
     }
 }
 
-fn repeated(alloc: Global, text: &[u8], count: usize) -> Result<Vec<u8>, AllocError> {
-    let mut all = Vec::new(alloc);
-    for _time in 0..count {
-        all.extend_from_slice(text)?;
-    }
-    Ok(all)
+fn append(rt: &impl Abort, text: &mut Vec<u8>, line: &[u8]) {
+    text.extend_from_slice(line).expect(rt, "memory");
 }
 
 const LONGEST: usize = 16_777_216;
 
 #[test]
-fn longest_file(rt: HostRuntime) -> Result<(), Fail> {
-    let mut text = vec![in rt.alloc(); b'#'; LONGEST]?;
+fn longest_file(rt: HostRuntime) {
+    let mut text = vec![in rt.alloc(); b'#'; LONGEST].expect(&rt, "memory");
     assert!(rt; rules(rt.alloc(), &text).is_ok());
-    text.extend_from_slice(b"#".as_slice())?;
-    assert!(rt; is_refused(rt.alloc(), &text, "refused C2")?);
-    Ok(())
+    append(&rt, &mut text, b"#");
+    assert!(rt; is_refused(&rt, rt.alloc(), &text, "refused C2"));
 }
 
 // Comments do not count; the last line is one too many, and is not looked at.
 #[test]
-fn most_lines(rt: HostRuntime) -> Result<(), Fail> {
-    let mut text = repeated(
-        rt.alloc(),
-        b"add 10.0.0.2:53\n# none\nremove 10.0.0.2:53\n",
-        32_767,
-    )?;
-    text.extend_from_slice(b"add 10.0.0.2:53".as_slice())?;
+fn most_lines(rt: HostRuntime) {
+    let mut text = Vec::new(rt.alloc());
+    for _ in 0..32_767 {
+        append(
+            &rt,
+            &mut text,
+            b"add 10.0.0.2:53\n# none\nremove 10.0.0.2:53\n",
+        );
+    }
+    append(&rt, &mut text, b"add 10.0.0.2:53");
     assert!(rt; rules(rt.alloc(), &text).is_ok());
-    text.extend_from_slice(b"\nx".as_slice())?;
-    assert!(rt; is_refused(rt.alloc(), &text, "refused C2")?);
-    Ok(())
+    append(&rt, &mut text, b"\nx");
+    assert!(rt; is_refused(&rt, rt.alloc(), &text, "refused C2"));
 }
 
-// 33 groups of 64 members are charged 2 + 33 * 4 + 2112 * 4 = 8582.
-#[test]
-fn charge_of_the_last_configuration(rt: HostRuntime) -> Result<(), Fail> {
-    let mut text = Vec::new(rt.alloc());
+// Lines that add 33 groups of 64 members.
+fn put_groups(rt: &impl Abort, alloc: Global, text: &mut Vec<u8>) {
     for group in 1..34u32 {
-        let line = format!(in rt.alloc(); "add 10.0.0.{group}:53\n")?;
-        text.extend_from_slice(line.as_bytes())?;
+        let line = format!(in alloc; "add 10.0.0.{group}:53\n").expect(rt, "memory");
+        append(rt, text, line.as_bytes());
         for member in 0..64u32 {
-            let line = format!(in rt.alloc(); "join 10.0.0.{group}:53 {member} 127.0.0.1:9001\n")?;
-            text.extend_from_slice(line.as_bytes())?;
+            let line = format!(in alloc; "join 10.0.0.{group}:53 {member} 127.0.0.1:9001\n").expect(
+                rt, "memory",
+            );
+            append(rt, text, line.as_bytes());
         }
     }
-    assert!(rt; is_refused(rt.alloc(), &text, "refused B1")?);
-    text.extend_from_slice(b"remove 10.0.0.1:53\nremove 10.0.0.2:53\n".as_slice())?;
-    let Ok(config) = rules(rt.alloc(), &text) else {
-        return Err(Fail::from("refused"));
-    };
-    assert_eq!(rt; config.charge(), 2 + 31 * 4 + 1984 * 4);
-    Ok(())
+}
+
+// They are charged 2 + 33 * 4 + 2112 * 4 = 8582.
+#[test]
+fn charge_of_the_last_configuration(rt: HostRuntime) {
+    let mut text = Vec::new(rt.alloc());
+    put_groups(&rt, rt.alloc(), &mut text);
+    assert!(rt; is_refused(&rt, rt.alloc(), &text, "refused B1"));
+    append(&rt, &mut text, b"remove 10.0.0.1:53\nremove 10.0.0.2:53\n");
+    let config = rules(rt.alloc(), &text).expect(&rt, "a configuration");
+    assert!(rt; config.charge() == 2 + 31 * 4 + 1984 * 4);
 }

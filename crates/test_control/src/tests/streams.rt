@@ -10,7 +10,7 @@ use dispatch::Failed;
 use std::alloc::Global;
 use std::io;
 use std::io::{ErrorKind, Read, Write};
-use std::test::Fail;
+use std::process::Abort;
 
 // The result of a step of a device: it gives or takes at most this many bytes, or fails.
 #[derive(Clone, Copy)]
@@ -83,73 +83,79 @@ const STEPS: [Step; 7] = [
     Step::Fails(ErrorKind::WouldBlock),
 ];
 
+// The result of each read of a slice into four bytes, and the bytes after it.
+const READ: [(usize, &[u8; 4]); 4] = [(4, b"show"), (4, b"\nswe"), (2, b"epwe"), (0, b"epwe")];
+
 #[test]
-fn reads_of_a_slice(rt: HostRuntime) -> Result<(), Fail> {
+fn reads_of_a_slice(rt: HostRuntime) {
     let mut input = FromRead::new(b"show\nsweep".as_slice());
     let mut buf = [0; 4];
-    for (answer, bytes) in [(4, b"show"), (4, b"\nswe"), (2, b"epwe"), (0, b"epwe")] {
-        assert_eq!(rt; input.read(&mut buf), Ok(answer));
-        assert_eq!(rt; buf.as_slice(), bytes.as_slice());
+    for (answer, bytes) in &READ {
+        assert!(rt; input.read(&mut buf) == Ok(*answer));
+        assert!(rt; buf == **bytes);
     }
-    Ok(())
 }
+
+const READS: [Result<usize, Failed>; 7] = [
+    Err(Failed),
+    Ok(2),
+    Err(Failed),
+    Ok(4),
+    Ok(0),
+    Err(Failed),
+    Ok(0),
+];
 
 // An interrupted read or write is a failure as others are.
 #[test]
-fn reads_that_fail(rt: HostRuntime) -> Result<(), Fail> {
+fn reads_that_fail(rt: HostRuntime) {
     let mut input = FromRead::new(in_steps(rt.alloc(), &STEPS));
     let mut buf = [0; 4];
-    assert_eq!(rt; input.read(&mut []), Ok(0));
-    for answer in [
-        Err(Failed),
-        Ok(2),
-        Err(Failed),
-        Ok(4),
-        Ok(0),
-        Err(Failed),
-        Ok(0),
-    ] {
-        assert_eq!(rt; input.read(&mut buf), answer);
+    assert!(rt; input.read(&mut []) == Ok(0));
+    for answer in &READS {
+        assert!(rt; input.read(&mut buf) == *answer);
     }
-    Ok(())
 }
 
+const WRITES: [Result<usize, Failed>; 8] = [
+    Ok(1),
+    Err(Failed),
+    Ok(2),
+    Err(Failed),
+    Ok(4),
+    Err(Failed),
+    Err(Failed),
+    Err(Failed),
+];
+
 #[test]
-fn writes_that_fail(rt: HostRuntime) -> Result<(), Fail> {
+fn writes_that_fail(rt: HostRuntime) {
     let mut writer = in_steps(rt.alloc(), &STEPS);
     let mut output = ToWrite::new(&mut writer);
-    assert_eq!(rt; output.write(b""), Ok(0));
-    for answer in [
-        Ok(1),
-        Err(Failed),
-        Ok(2),
-        Err(Failed),
-        Ok(4),
-        Err(Failed),
-        Err(Failed),
-        Err(Failed),
-    ] {
-        assert_eq!(rt; output.write(b"abcd"), answer);
+    assert!(rt; output.write(b"") == Ok(0));
+    for answer in &WRITES {
+        assert!(rt; output.write(b"abcd") == *answer);
     }
-    assert_eq!(rt; output.into_inner().bytes.as_slice(), b"aababcd".as_slice());
-    Ok(())
+    let _ = output.into_inner();
+    assert!(rt; writer.bytes.as_slice() == b"aababcd".as_slice());
 }
+
+const FIRST_END: [Step; 3] = [
+    Step::Moves(4),
+    Step::Moves(0),
+    Step::Fails(ErrorKind::BrokenPipe),
+];
 
 // The reads after the end would fail.
 #[test]
 fn first_end_ends_the_script(rt: HostRuntime) {
-    let steps = [
-        Step::Moves(4),
-        Step::Moves(0),
-        Step::Fails(ErrorKind::BrokenPipe),
-    ];
-    let mut input = FromRead::new(in_steps(rt.alloc(), &steps));
+    let mut input = FromRead::new(in_steps(rt.alloc(), &FIRST_END));
     let mut replies = Vec::new(rt.alloc());
     let mut output = ToWrite::new(&mut replies);
     let answer = replay(rt.alloc(), &mut input, &mut output);
     let _ = output.into_inner();
-    assert_eq!(rt; answer, Ok(()));
-    assert_eq!(rt; replies.as_slice(), b"refused C1\n".as_slice());
+    assert!(rt; answer == Ok(()));
+    assert!(rt; replies.as_slice() == b"refused C1\n".as_slice());
 }
 
 fn write_once<O: Output>(output: &mut O, bytes: &[u8]) -> Result<usize, Failed>
@@ -170,15 +176,21 @@ fn write_through<W: Write>(writer: &mut W, bytes: &[u8]) -> Result<usize, Failed
     answer
 }
 
+// Bytes that are written where three have room, and the results.
+const WRITTEN: [(&[u8], Result<usize, Failed>); 3] = [
+    (b"ok", Ok(2)),
+    (b"no", Ok(1)),
+    (b"no", Err(Failed)),
+];
+
 #[test]
-fn writes_reach_the_writer(rt: HostRuntime) -> Result<(), Fail> {
+fn writes_reach_the_writer(rt: HostRuntime) {
     let mut held = [0; 3];
     let mut rest = held.as_mut_slice();
-    for (bytes, answer) in [(b"ok", Ok(2)), (b"no", Ok(1)), (b"no", Err(Failed))] {
-        assert_eq!(rt; write_through(&mut rest, bytes), answer);
+    for (bytes, answer) in &WRITTEN {
+        assert!(rt; write_through(&mut rest, bytes) == *answer);
     }
-    assert_eq!(rt; held, *b"okn");
-    Ok(())
+    assert!(rt; held == *b"okn");
 }
 
 // A line, and the packet in it.
@@ -208,41 +220,40 @@ const TOO_LONG: [(usize, bool); 4] = [
     (262_145, false),
 ];
 
-fn is_read_as(alloc: Global, text: &[u8], packet: &[u8]) -> Result<bool, Fail> {
-    Ok(match read_packet_line(alloc, text)? {
+fn is_read_as(rt: &impl Abort, alloc: Global, text: &[u8], packet: &[u8]) -> bool {
+    match read_packet_line(alloc, text).expect(rt, "memory") {
         Some(PacketLine::Packet(bytes)) => bytes.as_slice() == packet,
         _ => false,
-    })
+    }
 }
 
-fn is_too_long(alloc: Global, text: &[u8], is_wanted: bool) -> Result<bool, Fail> {
-    Ok(match read_packet_line(alloc, text)? {
+fn is_too_long(rt: &impl Abort, alloc: Global, text: &[u8], is_wanted: bool) -> bool {
+    match read_packet_line(alloc, text).expect(rt, "memory") {
         Some(PacketLine::TooLong) => is_wanted,
         Some(PacketLine::Packet(_)) => false,
         None => !is_wanted,
-    })
+    }
 }
 
 #[test]
-fn packets_of_lines(rt: HostRuntime) -> Result<(), Fail> {
-    for (text, packet) in PACKETS {
-        assert!(rt; is_read_as(rt.alloc(), text, packet)?);
+fn packets_of_lines(rt: HostRuntime) {
+    for (text, packet) in &PACKETS {
+        assert!(rt; is_read_as(&rt, rt.alloc(), text, packet));
     }
-    let mut text = Vec::from_slice(rt.alloc(), b"packet ")?;
-    text.resize(131_077, b'8')?;
-    let packet = vec![in rt.alloc(); 0x88u8; 65_535]?;
-    assert!(rt; is_read_as(rt.alloc(), &text, &packet)?);
-    for (len, is_wanted) in TOO_LONG {
-        text.resize(len, b'8')?;
-        assert!(rt; is_too_long(rt.alloc(), &text, is_wanted)?);
+    let mut text = Vec::from_slice(rt.alloc(), b"packet ").expect(&rt, "memory");
+    text.resize(131_077, b'8').expect(&rt, "memory");
+    let packet = vec![in rt.alloc(); 0x88u8; 65_535].expect(&rt, "memory");
+    assert!(rt; is_read_as(&rt, rt.alloc(), &text, &packet));
+    for (len, is_wanted) in &TOO_LONG {
+        text.resize(*len, b'8').expect(&rt, "memory");
+        assert!(rt; is_too_long(&rt, rt.alloc(), &text, *is_wanted));
     }
-    Ok(())
 }
 
 #[test]
-fn other_lines_have_no_packet(rt: HostRuntime) -> Result<(), Fail> {
-    for text in NO_PACKETS {
-        assert!(rt; read_packet_line(rt.alloc(), text)?.is_none());
+fn other_lines_have_no_packet(rt: HostRuntime) {
+    for text in &NO_PACKETS {
+        let line = read_packet_line(rt.alloc(), text).expect(&rt, "memory");
+        assert!(rt; line.is_none());
     }
-    Ok(())
 }

@@ -1,7 +1,6 @@
 //! The words and the charge of a program in assembly.
 
 use filter_program::assembled;
-use std::test::Fail;
 
 // An assembly text and its words (networking/filter.rst, "Structure"); each is charged by their number.
 const ASSEMBLED: [(&[u8], &[u64]); 2] = [
@@ -13,13 +12,10 @@ const ASSEMBLED: [(&[u8], &[u64]); 2] = [
 ];
 
 #[test]
-fn programs_of_assembly(rt: HostRuntime) -> Result<(), Fail> {
-    for (text, words) in ASSEMBLED {
-        let Ok(program) = assembled(rt.alloc(), text) else {
-            return Err(Fail::from("no program"));
-        };
-        assert!(rt; program.words() == words);
+fn programs_of_assembly(rt: HostRuntime) {
+    for (text, words) in &ASSEMBLED {
+        let program = assembled(rt.alloc(), text).expect(&rt, "a program");
+        assert!(rt; program.words() == *words);
         assert!(rt; program.charge() as usize == words.len());
     }
-    Ok(())
 }
