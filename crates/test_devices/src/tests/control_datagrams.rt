@@ -18,18 +18,18 @@ struct Switch {
     members: MemberTable,
 }
 
-fn opened(rt: &impl Abort, alloc: Global) -> (Switch, Vec<Counter>) {
+// Lends a new switch, and the counters of its workers, to a check.
+fn on_switch<F: FnOnce(&mut Switch, &mut Vec<Counter>)>(rt: &impl Abort, alloc: Global, check: F)
+    requires { F.IsAlwaysCallable check }
+{
     let (operator, _workers) = open(Config::new(alloc)).expect(rt, "a table");
-    let (tally, counters) = Tally::open(alloc).expect(rt, "a tally");
-    let members = MemberTable::new(alloc);
-    (
-        Switch {
-            operator,
-            tally,
-            members,
-        },
-        counters,
-    )
+    let (tally, mut counters) = Tally::open(alloc).expect(rt, "a tally");
+    let mut switch = Switch {
+        operator,
+        tally,
+        members: MemberTable::new(alloc),
+    };
+    check(&mut switch, &mut counters);
 }
 
 // 127.0.0.1
@@ -66,16 +66,20 @@ impl Switch {
     }
 }
 
-fn expect(rt: &impl Abort, alloc: Global, switch: &mut Switch, text: &[u8], reply: &[u8]) {
-    let answer = switch.answer(alloc, CLIENT, text).expect(rt, "an answer");
-    let mut bytes = Vec::new(alloc);
-    answer.append_to(&mut bytes).expect(rt, "memory");
-    assert_eq!(rt; bytes.as_slice(), reply, "{text:?}");
+// The text of a datagram, and its reply.
+type Case<'a> = (&'a [u8], &'a [u8]);
+
+fn expect_each(rt: &impl Abort, alloc: Global, switch: &mut Switch, cases: &[Case]) {
+    for (text, reply) in cases {
+        let answer = switch.answer(alloc, CLIENT, text).expect(rt, "an answer");
+        let mut bytes = Vec::new(alloc);
+        answer.append_to(&mut bytes).expect(rt, "memory");
+        assert!(rt; bytes.as_slice() == *reply, "{text:?}");
+    }
 }
 
-// The text of a datagram, and its reply. A text with LF is a control line if its program may contain one, and otherwise
-// not.
-const ANSWERS: [(&[u8], &[u8]); 16] = [
+// A text with LF is a control line if its program may contain one, and otherwise not.
+const ANSWERS: [Case; 16] = [
     (b"show", b"version 0 groups 0 members 0 charge 2"),
     (b"", b"refused C1"),
     (b"stop\n", b"refused C1"),
@@ -99,10 +103,9 @@ const ANSWERS: [(&[u8], &[u8]); 16] = [
 
 #[test]
 fn datagrams_are_answered_in_turn(rt: HostRuntime) {
-    let (mut switch, _counters) = opened(&rt, rt.alloc());
-    for (text, reply) in &ANSWERS {
-        expect(&rt, rt.alloc(), &mut switch, text, reply);
-    }
+    on_switch(&rt, rt.alloc(), |switch, _counters| {
+        expect_each(&rt, rt.alloc(), switch, &ANSWERS);
+    });
 }
 
 // Each word that begins replies, and other texts that look like a reply.
@@ -134,16 +137,20 @@ const ALMOST_REPLIES: [&[u8]; 10] = [
     b"dropped 0",
 ];
 
+fn is_ignored(alloc: Global, switch: &mut Switch, sender: Endpoint, text: &[u8]) -> bool {
+    switch.answer(alloc, sender, text).is_none()
+}
+
 #[test]
 fn replies_are_ignored(rt: HostRuntime) {
-    let (mut switch, _counters) = opened(&rt, rt.alloc());
-    for text in &REPLIES {
-        let answer = switch.answer(rt.alloc(), CLIENT, text);
-        assert!(rt; answer.is_none(), "{text:?}");
-    }
-    for text in &ALMOST_REPLIES {
-        expect(&rt, rt.alloc(), &mut switch, text, b"refused C1");
-    }
+    on_switch(&rt, rt.alloc(), |switch, _counters| {
+        for text in &REPLIES {
+            assert!(rt; is_ignored(rt.alloc(), switch, CLIENT, text), "{text:?}");
+        }
+        for text in &ALMOST_REPLIES {
+            expect_each(&rt, rt.alloc(), switch, &[(*text, b"refused C1")]);
+        }
+    });
 }
 
 // A sender's address and port, and whether it is the switch. Each address with control's port is the switch's.
@@ -161,36 +168,38 @@ const SENDERS: [(u32, u16, bool); 8] = [
 // `show` is a line, so it is answered if its sender is not ignored.
 #[test]
 fn own_datagrams_are_ignored(rt: HostRuntime) {
-    let (mut switch, _counters) = opened(&rt, rt.alloc());
-    for (address, port, is_own) in &SENDERS {
-        let sender = Endpoint {
-            address: *address,
-            port: *port,
-        };
-        let answer = switch.answer(rt.alloc(), sender, b"show");
-        assert!(rt; answer.is_none() == *is_own, "{sender:?}");
-    }
-    let ignored = switch.answer(rt.alloc(), BOUND.front, b"add 10.0.0.2:53");
-    assert!(rt; ignored.is_none());
-    expect(
-        &rt,
-        rt.alloc(),
-        &mut switch,
-        b"add 10.0.0.2:53",
-        b"ok version 1",
-    );
+    on_switch(&rt, rt.alloc(), |switch, _counters| {
+        for (address, port, is_own) in &SENDERS {
+            let sender = Endpoint {
+                address: *address,
+                port: *port,
+            };
+            let ignored = is_ignored(rt.alloc(), switch, sender, b"show");
+            assert!(rt; ignored == *is_own, "{sender:?}");
+        }
+        assert!(rt; is_ignored(rt.alloc(), switch, BOUND.front, b"add 10.0.0.2:53"));
+        expect_each(
+            &rt,
+            rt.alloc(),
+            switch,
+            &[(b"add 10.0.0.2:53", b"ok version 1")],
+        );
+    });
 }
 
 // The longest that one datagram carries is no line, and not too long for one.
 #[test]
 fn longest_control_datagram(rt: HostRuntime) {
     let text = vec![in rt.alloc(); b'z'; 65_507].expect(&rt, "memory");
-    let (mut switch, _counters) = opened(&rt, rt.alloc());
-    expect(&rt, rt.alloc(), &mut switch, &text, b"refused C1");
+    on_switch(&rt, rt.alloc(), |switch, _counters| {
+        expect_each(&rt, rt.alloc(), switch, &[(&text, b"refused C1")]);
+    });
 }
 
-const COUNTED: &[u8] =
-    b"malformed 1 nogroup 2 nomembers 3 dropped 4 delivered 5 sendfailed 6 receivefailed 7";
+const COUNTED: [Case; 1] = [(
+    b"totals",
+    b"malformed 1 nogroup 2 nomembers 3 dropped 4 delivered 5 sendfailed 6 receivefailed 7",
+)];
 
 const COUNTS: [(Kind, u32); 7] = [
     (Kind::Malformed, 1),
@@ -202,19 +211,17 @@ const COUNTS: [(Kind, u32); 7] = [
     (Kind::ReceiveFailed, 7),
 ];
 
-fn count_each(rt: &impl Abort, counter: &mut Counter) {
-    for (kind, count) in &COUNTS {
-        for _ in 0..*count {
-            assert!(rt; counter.count(*kind).is_ok());
-        }
-    }
-}
-
 #[test]
 fn totals_tell_each_kind(rt: HostRuntime) {
-    let (mut switch, mut counters) = opened(&rt, rt.alloc());
-    count_each(&rt, counters.last_mut().expect(&rt, "a counter"));
-    expect(&rt, rt.alloc(), &mut switch, b"totals", COUNTED);
+    on_switch(&rt, rt.alloc(), |switch, counters| {
+        let counter = counters.last_mut().expect(&rt, "a counter");
+        for (kind, count) in &COUNTS {
+            for _ in 0..*count {
+                assert!(rt; counter.count(*kind).is_ok());
+            }
+        }
+        expect_each(&rt, rt.alloc(), switch, &COUNTED);
+    });
 }
 
 const GROUP: Endpoint = Endpoint {
@@ -224,7 +231,7 @@ const GROUP: Endpoint = Endpoint {
 
 // Lines, and their replies after member 1 of 10.0.0.2:53 got 28 bytes and dropped a packet, and member 2, which has
 // left, got 9.
-const COUNTERS: [(&[u8], &[u8]); 12] = [
+const COUNTERS: [Case; 12] = [
     (b"totals 10.0.0.2:53", b"refused G1"),
     (b"totals 10.0.0.2:53 1", b"refused G1"),
     (b"add 10.0.0.2:53", b"ok version 1"),
@@ -245,33 +252,43 @@ const COUNTERS: [(&[u8], &[u8]); 12] = [
     (b"totals 10.0.0.2", b"refused C1"),
 ];
 
-fn delivered(member: u32, bytes: usize) -> Verdict {
+const JUDGED: [Verdict; 3] = [
     Verdict::Deliver {
         group: GROUP,
-        member,
+        member: 1,
         to: CLIENT,
-        bytes,
-    }
-}
-
-#[test]
-fn counters_by_member(rt: HostRuntime) {
-    let (mut switch, _counters) = opened(&rt, rt.alloc());
-    let dropped = Verdict::Dropped {
+        bytes: 28,
+    },
+    Verdict::Dropped {
         group: GROUP,
         member: 1,
-    };
-    let mut log = VerdictLog::new(rt.alloc(), 4).expect(&rt, "memory");
-    for verdict in &[delivered(1, 28), dropped, delivered(2, 9)] {
+    },
+    Verdict::Deliver {
+        group: GROUP,
+        member: 2,
+        to: CLIENT,
+        bytes: 9,
+    },
+];
+
+fn log_of(rt: &impl Abort, alloc: Global) -> VerdictLog {
+    let mut log = VerdictLog::new(alloc, 4).expect(rt, "memory");
+    for verdict in &JUDGED {
         assert!(rt; !log.is_full());
         log.judged(verdict);
     }
     assert!(rt; !log.is_full());
     log.no_members(GROUP);
-    switch.members.count(&log);
-    for (text, reply) in &COUNTERS {
-        expect(&rt, rt.alloc(), &mut switch, text, reply);
-    }
+    log
+}
+
+#[test]
+fn counters_by_member(rt: HostRuntime) {
+    let log = log_of(&rt, rt.alloc());
+    on_switch(&rt, rt.alloc(), |switch, _counters| {
+        switch.members.count(&log);
+        expect_each(&rt, rt.alloc(), switch, &COUNTERS);
+    });
 }
 
 const STOPS: [(&[u8], bool); 4] = [
@@ -281,18 +298,13 @@ const STOPS: [(&[u8], bool); 4] = [
     (b"sto", false),
 ];
 
-fn stops(alloc: Global, switch: &mut Switch, text: &[u8]) -> bool {
-    matches!(
-        switch.answer(alloc, CLIENT, text),
-        Some(ControlAnswer::Stop)
-    )
-}
-
 #[test]
 fn only_stop_stops(rt: HostRuntime) {
-    let (mut switch, _counters) = opened(&rt, rt.alloc());
-    for (text, wanted) in &STOPS {
-        let found = stops(rt.alloc(), &mut switch, text);
-        assert!(rt; found == *wanted, "{text:?}");
-    }
+    on_switch(&rt, rt.alloc(), |switch, _counters| {
+        for (text, wanted) in &STOPS {
+            let answer = switch.answer(rt.alloc(), CLIENT, text);
+            let stops = matches!(&answer, Some(ControlAnswer::Stop));
+            assert!(rt; stops == *wanted, "{text:?}");
+        }
+    });
 }

@@ -34,26 +34,23 @@ pub(super) fn at_port(port: u16) -> Endpoint {
     }
 }
 
-fn applied(rt: &impl Abort, config: &Config, command: Command) -> Config {
-    config.apply(&command).expect(rt, "the command is applied")
-}
-
 // The workers of a table whose one group has one member.
 fn new_workers(rt: &impl Abort, alloc: Global) -> Vec<Worker> {
-    let group = applied(rt, &Config::new(alloc), Command::AddGroup { key: KEY });
-    let join = Command::Join {
+    let add: Command = Command::AddGroup { key: KEY };
+    let join: Command = Command::Join {
         key: KEY,
         member: 1,
         to: at_port(9001),
     };
-    let config = applied(rt, &group, join);
+    let group = Config::new(alloc).apply(&add).expect(rt, "a group");
+    let config = group.apply(&join).expect(rt, "a member");
     let (_operator, workers) = open(config).expect(rt, "a table");
     workers
 }
 
-fn totals(tally: &mut Tally) -> [u64; KINDS] {
+fn expect_totals(rt: &impl Abort, tally: &mut Tally, wanted: [u64; KINDS]) {
     let Totals { counts } = tally.totals();
-    counts
+    assert!(rt; counts == wanted);
 }
 
 /// A source over the end of a queue.
@@ -92,16 +89,14 @@ fn rest_is_judged<R: Abort + Wait>(
 ) {
     let mut buf = [0; 64];
     let failed = batch(worker, counter, source, outbox, &mut buf, 10);
-    assert_eq!(rt; failed, Err(BatchFault::ReceiveFailed));
+    assert!(rt; failed == Err(BatchFault::ReceiveFailed));
     let rest = batch(worker, counter, source, outbox, &mut buf, 10);
-    assert_eq!(rt;
-        rest,
-        Ok(BatchDone {
-            judged: 2,
-            more: false,
-        })
-    );
-    assert_eq!(rt; totals(tally), [1, 0, 0, 0, 2, 0, 1]);
+    let wanted = BatchDone {
+        judged: 2,
+        more: false,
+    };
+    assert!(rt; rest == Ok(wanted));
+    expect_totals(rt, tally, [1, 0, 0, 0, 2, 0, 1]);
     assert!(rt; outbox.count() == 2);
 }
 
@@ -143,8 +138,7 @@ fn come_in_order<S: Source>(rt: &impl Abort, source: &mut S) {
     let mut buf = [0; 3];
     for (place, wanted) in RECEIVES.iter().enumerate() {
         let answer = source.next(&mut buf);
-        let found = (answer, buf);
-        assert!(rt; found == *wanted, "receive {place}: {found:?}");
+        assert!(rt; (answer, buf) == *wanted, "receive {place}");
     }
 }
 
@@ -182,12 +176,9 @@ fn receives_ahead_come_in_order(rt: HostRuntime) {
     let mut buf = [0; 3];
     for (place, wanted) in RECEIVES.iter().enumerate() {
         let waits = (source.would_wait(), source.would_wait());
-        assert!(rt;
-            waits == (place >= 4, place >= 4),
-            "receive {place}: {waits:?}"
-        );
+        assert!(rt; waits == (place >= 4, place >= 4), "receive {place}");
         let answer = source.next(&mut buf);
-        assert!(rt; (answer, buf) == *wanted, "receive {place}: {answer:?}");
+        assert!(rt; (answer, buf) == *wanted, "receive {place}");
     }
 }
 
@@ -206,21 +197,20 @@ fn both_are_received<R: Abort + Wait>(
     let mut buf = [0; 3];
     for datagram in &[[1, 2, 3], [4, 5, 6]] {
         assert!(rt; arriving.put(rt, received(rt, alloc, datagram)));
-        let found = source.next(&mut buf);
-        assert!(rt; found == Ok(Some(3)), "{found:?} for {datagram:?}");
-        assert!(rt; buf == *datagram, "{buf:?} for {datagram:?}");
+        assert!(rt; source.next(&mut buf) == Ok(Some(3)));
+        assert!(rt; buf == *datagram);
     }
 }
 
 fn is_used_again(rt: &impl Abort, again: &mut Received) {
     let mut buf = [0; 3];
     let size = again.open(&mut buf);
-    assert_eq!(rt; (size, buf), (Ok(3), [1, 2, 3]));
+    assert!(rt; (size, buf) == (Ok(3), [1, 2, 3]));
     again.fill(&[7]).expect(rt, "memory");
     let size = again.open(&mut buf);
-    assert_eq!(rt; (size, buf), (Ok(1), [7, 2, 3]));
+    assert!(rt; (size, buf) == (Ok(1), [7, 2, 3]));
     again.fail();
-    assert_eq!(rt; again.open(&mut buf), Err(Failed));
+    assert!(rt; again.open(&mut buf) == Err(Failed));
 }
 
 fn first_comes_back<R: Abort + Wait>(rt: &R, opened: &mut ChannelReceiver<Received>) {
@@ -264,8 +254,7 @@ fn other_is_served<R: Abort + Wait>(
         queues.arrive(rt, Some(&[0]));
         queues.arrive(rt, Some(&[i, i]));
         let size = if i == 1 { 1 } else { 2 };
-        let found = source.next(&mut buf);
-        assert!(rt; found == Ok(Some(size)), "receive {i}: {found:?}");
+        assert!(rt; source.next(&mut buf) == Ok(Some(size)), "receive {i}");
     }
 }
 
@@ -337,10 +326,10 @@ fn two_jobs<'a, R: Abort + Wait>(
 
 // A hundred packets, of every other number.
 fn every_other_is_sent(rt: &impl Abort, outbox: &Sends, first: u8) {
-    assert_eq!(rt; outbox.count(), 100);
+    assert!(rt; outbox.count() == 100);
     let mut number = first;
     for sent in outbox.bytes().chunks(29) {
-        assert!(rt; sent == packet(number).as_slice(), "{number}: {sent:?}");
+        assert!(rt; sent == packet(number).as_slice(), "{number}");
         number = number.wrapping_add(2);
     }
 }
@@ -350,11 +339,12 @@ fn turns_were_taken<R: Abort + Wait>(
     tally: &mut Tally,
     dones: &[Done<QueueSource<'_, R>, Sends>],
 ) {
-    assert_eq!(rt; totals(tally), [0, 0, 0, 0, 200, 0, 400]);
-    assert!(rt; dones.len() == 2);
-    for (done, first) in dones.iter().zip([0, 1]) {
-        every_other_is_sent(rt, &done.outbox, first);
-    }
+    expect_totals(rt, tally, [0, 0, 0, 0, 200, 0, 400]);
+    let [one, other] = dones else {
+        panic!(rt; "other than two jobs ended");
+    };
+    every_other_is_sent(rt, &one.outbox, 0);
+    every_other_is_sent(rt, &other.outbox, 1);
 }
 
 #[test]

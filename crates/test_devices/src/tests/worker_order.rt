@@ -38,7 +38,7 @@ fn taken_eight_apart(rt: &impl Abort, operator: &mut Operator, workers: &mut Vec
     for turn in 0..64usize {
         let mut worker = workers.pop().expect(rt, "a worker is left");
         let number = number_of(operator, &mut worker);
-        assert!(rt; number == Some(taken(turn)), "turn {turn}: {number:?}");
+        assert!(rt; number == Some(taken(turn)), "turn {turn}");
     }
     assert!(rt; workers.is_empty());
 }
