@@ -1,5 +1,7 @@
 //! Counters read over a wire in memory, and their printed text.
 
+ghost use Rattle.std.specs.Prelude.{◌≤◌};
+
 use super::memory_wire::{SWITCH, ScriptWire};
 use command_line::Failure;
 use control_counters::read_counters;
@@ -7,7 +9,7 @@ use control_rules::Client;
 use counter_text::{Counters, FrontDrops, drops_at, metrics_text, screen_text};
 use ipv4_fields::Endpoint;
 use std::alloc::Global;
-use std::test::Fail;
+use std::process::Abort;
 use std::time::Clock;
 
 // A line that is sent, and its reply.
@@ -111,6 +113,16 @@ fn counters_are_read_line_by_line(rt: HostRuntime) {
     }
 }
 
+fn counters_of<R: Clock + Abort>(
+    rt: &R,
+    alloc: Global,
+    lines: &'static [Told],
+    earlier: Option<&Counters>,
+) -> Counters {
+    let found = read(rt, alloc, lines, earlier).expect(rt, "a reading");
+    found.expect(rt, "counters")
+}
+
 const METRICS: &str =
     r#"# HELP dswitch_datagrams_total Datagrams that came to the front, by what became of them.
 # TYPE dswitch_datagrams_total counter
@@ -172,23 +184,23 @@ const FRONT: Endpoint = Endpoint {
 const TABLE: &[u8] =
     b"   sl  local_address rem_address   st tx_queue rx_queue tr tm->when retrnsmt   uid  timeout inode ref pointer drops             \n  533: 0100007F:14B4 00000000:0000 07 00000000:00000000 00:00000000 00000000     0        0 13371 2 0000000000000000 12         \n  533: 00000000:14B4 00000000:0000 07 00000000:00000000 00:00000000 00000000     0        0 13372 2 0000000000000000 3          \n  534: 0100007F:14B5 00000000:0000 07 00000000:00000000 00:00000000 00000000     0        0 13373 2 0000000000000000 7          \n";
 
+const OTHER_FRONT: Endpoint = Endpoint {
+    address: 0x7f00_0001,
+    port: 5302,
+};
+
 #[test]
-fn counters_are_printed(rt: HostRuntime) -> Result<(), Fail> {
+fn counters_are_printed(rt: HostRuntime) {
     let alloc = rt.alloc();
-    let first = read(&rt, alloc, ROWS[0].0, None)?.ok_or("no counters")?;
-    let drops = drops_at(alloc, TABLE, FRONT)?.ok_or("no socket")?;
+    let first = counters_of(&rt, alloc, ROWS[0].0, None);
+    let drops = drops_at(alloc, TABLE, FRONT).expect(&rt, "memory");
     let front = Some(FrontDrops {
         front: FRONT,
-        drops,
+        drops: drops.expect(&rt, "a socket"),
     });
-    let text = metrics_text(alloc, &first, front)?;
+    let text = metrics_text(alloc, &first, front).expect(&rt, "memory");
     assert!(rt; text.as_str() == METRICS, "{}", text.as_str());
-    let other = Endpoint {
-        address: 0x7f00_0001,
-        port: 5302,
-    };
-    assert!(rt; drops_at(alloc, TABLE, other)? == None);
-    Ok(())
+    assert!(rt; drops_at(alloc, TABLE, OTHER_FRONT) == Ok(None));
 }
 
 // The same rules, half a second later than two seconds.
@@ -219,14 +231,26 @@ GROUP                     MEMBER    PACKETS/S         BYTES/S    DROPPED/S     F
 
 ";
 
+// Two readings, and the milliseconds between them, make this screen.
+fn expect_screen<R: Clock + Abort>(
+    rt: &R,
+    alloc: Global,
+    readings: [&'static [Told]; 2],
+    between: u32,
+    screen: &str,
+)
+    requires { 1000 ≤ between }
+{
+    let [lines, more] = readings;
+    let first = counters_of(rt, alloc, lines, None);
+    let later = counters_of(rt, alloc, more, Some(&first));
+    let text = screen_text(alloc, &first, &later, between).expect(rt, "memory");
+    assert!(rt; text.as_str() == screen, "{}", text.as_str());
+}
+
 #[test]
-fn two_readings_are_a_screen(rt: HostRuntime) -> Result<(), Fail> {
-    let alloc = rt.alloc();
-    let first = read(&rt, alloc, ROWS[0].0, None)?.ok_or("no counters")?;
-    let later = read(&rt, alloc, AGAIN, Some(&first))?.ok_or("no counters")?;
-    let text = screen_text(alloc, &first, &later, 2500)?;
-    assert!(rt; text.as_str() == SCREEN, "{}", text.as_str());
-    Ok(())
+fn two_readings_are_a_screen(rt: HostRuntime) {
+    expect_screen(&rt, rt.alloc(), [ROWS[0].0, AGAIN], 2500, SCREEN);
 }
 
 // No group was there at the first reading. Its counts may be of an earlier time.
@@ -242,13 +266,8 @@ GROUP                     MEMBER    PACKETS/S         BYTES/S    DROPPED/S     F
 ";
 
 #[test]
-fn what_was_not_there_has_not_grown(rt: HostRuntime) -> Result<(), Fail> {
-    let alloc = rt.alloc();
-    let first = read(&rt, alloc, NOTHING, None)?.ok_or("no counters")?;
-    let later = read(&rt, alloc, ROWS[0].0, Some(&first))?.ok_or("no counters")?;
-    let text = screen_text(alloc, &first, &later, 1000)?;
-    assert!(rt; text.as_str() == SCREEN_OF_NEW, "{}", text.as_str());
-    Ok(())
+fn what_was_not_there_has_not_grown(rt: HostRuntime) {
+    expect_screen(&rt, rt.alloc(), [NOTHING, ROWS[0].0], 1000, SCREEN_OF_NEW);
 }
 
 // The switch is another one: a total fell.
@@ -271,10 +290,8 @@ const RESTARTED: &[Told] = &[
 ];
 
 #[test]
-fn another_switch_is_read_anew(rt: HostRuntime) -> Result<(), Fail> {
-    let alloc = rt.alloc();
-    let first = read(&rt, alloc, ROWS[0].0, None)?.ok_or("no counters")?;
-    let later = read(&rt, alloc, RESTARTED, Some(&first))?.ok_or("no counters")?;
-    assert_eq!(rt; later.totals.malformed, 1);
-    Ok(())
+fn another_switch_is_read_anew(rt: HostRuntime) {
+    let first = counters_of(&rt, rt.alloc(), ROWS[0].0, None);
+    let later = counters_of(&rt, rt.alloc(), RESTARTED, Some(&first));
+    assert!(rt; later.totals.malformed == 1);
 }

@@ -1,8 +1,8 @@
 //! The text for people about a file that is refused.
 
 use command_explain::{FaultPlace, file_fault_text, line_fault_text};
-use std::alloc::{AllocError, Global};
-use std::test::Fail;
+use std::alloc::Global;
+use std::process::Abort;
 
 // A line, the column of its fault, the code, and the text.
 const SHOWN: [(&[u8], usize, &str, &str); 6] = [
@@ -41,18 +41,17 @@ const SHOWN: [(&[u8], usize, &str, &str); 6] = [
 ];
 
 #[test]
-fn faults_of_lines(rt: HostRuntime) -> Result<(), Fail> {
-    for (line, column, code, shown) in SHOWN {
+fn faults_of_lines(rt: HostRuntime) {
+    for (line, column, code, shown) in &SHOWN {
         let place = FaultPlace {
             file: "rules.txt",
             number: 7,
-            column,
-            line,
+            column: *column,
+            line: *line,
         };
-        let text = line_fault_text(rt.alloc(), place, code)?;
+        let text = line_fault_text(rt.alloc(), place, code).expect(&rt, "memory");
         assert!(rt; text.as_slice() == shown.as_bytes(), "{code}");
     }
-    Ok(())
 }
 
 // For a line of 300 bytes: the column of the fault, the first byte that is shown, and the number of spaces before the
@@ -66,50 +65,57 @@ const CUT: [(usize, u8, u32); 5] = [
 ];
 
 // Byte i of the line is the letter i modulo 26.
-fn long_line(alloc: Global) -> Result<Vec<u8>, AllocError> {
+fn long_line(rt: &impl Abort, alloc: Global) -> Vec<u8> {
     let mut line = Vec::new(alloc);
     for place in 0..300u32 {
-        line.extend_from_slice([b'a' + (place % 26) as u8].as_slice())?;
+        line.push(b'a' + (place % 26) as u8).expect(rt, "memory");
     }
-    Ok(line)
+    line
 }
 
-fn caret_after(alloc: Global, spaces: u32) -> Result<Vec<u8>, AllocError> {
+fn caret_after(rt: &impl Abort, alloc: Global, spaces: u32) -> Vec<u8> {
     let mut text = Vec::new(alloc);
-    text.extend_from_slice(b"\n".as_slice())?;
+    text.push(b'\n').expect(rt, "memory");
     for _space in 0..spaces {
-        text.extend_from_slice(b" ".as_slice())?;
+        text.push(b' ').expect(rt, "memory");
     }
-    text.extend_from_slice(b"^\n".as_slice())?;
-    Ok(text)
+    text.extend_from_slice(b"^\n".as_slice())
+        .expect(rt, "memory");
+    text
+}
+
+// Of the line 256 bytes are shown, from this first one on.
+fn is_cut(text: &[u8], heading: &[u8], first: u8, ending: &[u8]) -> bool {
+    let shown = text.len().saturating_sub(heading.len());
+    text.starts_with(heading)
+        && text.ends_with(ending)
+        && shown.saturating_sub(ending.len()) == 256
+        && text.get(heading.len()).copied() == Some(first)
 }
 
 #[test]
-fn long_lines_are_cut(rt: HostRuntime) -> Result<(), Fail> {
-    let line = long_line(rt.alloc())?;
-    for (column, first, spaces) in CUT {
+fn long_lines_are_cut(rt: HostRuntime) {
+    let line = long_line(&rt, rt.alloc());
+    for (column, first, spaces) in &CUT {
         let place = FaultPlace {
             file: "f",
             number: 1,
-            column,
+            column: *column,
             line: &line,
         };
-        let text = line_fault_text(rt.alloc(), place, "Z1")?;
-        let heading = format!(in rt.alloc(); "f:1:{column}: Z1\n")?;
-        let ending = caret_after(rt.alloc(), spaces)?;
-        assert!(rt; text.starts_with(heading.as_bytes()), "{column}");
-        assert!(rt; text.ends_with(ending.as_slice()), "{column}");
-        let shown = text.len().saturating_sub(heading.len());
-        assert_eq!(rt; shown.saturating_sub(ending.len()), 256, "{column}");
-        assert!(rt; text.get(heading.len()).copied() == Some(first), "{column}");
+        let text = line_fault_text(rt.alloc(), place, "Z1").expect(&rt, "memory");
+        let heading = format!(in rt.alloc(); "f:1:{column}: Z1\n").expect(&rt, "memory");
+        let ending = caret_after(&rt, rt.alloc(), *spaces);
+        assert!(rt;
+            is_cut(&text, heading.as_bytes(), *first, &ending),
+            "{column}"
+        );
     }
-    Ok(())
 }
 
 #[test]
-fn faults_of_whole_files(rt: HostRuntime) -> Result<(), Fail> {
-    let text = file_fault_text(rt.alloc(), "rules.txt", "B1")?;
+fn faults_of_whole_files(rt: HostRuntime) {
+    let text = file_fault_text(rt.alloc(), "rules.txt", "B1").expect(&rt, "memory");
     let wanted = "rules.txt: B1: The new configuration is too large to be published.\n";
     assert!(rt; text.as_slice() == wanted.as_bytes());
-    Ok(())
 }

@@ -2,10 +2,15 @@
 
 ghost use Rattle.std.specs.Prelude.{◌≤◌, IfSome, length};
 
-use control_client::{Came, Explains, Peer, Places, Wire, WireFailed};
+use command_line::Failure;
+use control_client::{
+    Came, Explains, InputLines, Lines, Peer, Places, Wire, WireFailed, tell, tell_change,
+};
 use ipv4_fields::Endpoint;
-use std::alloc::{AllocError, Global};
-use std::io::Write;
+use std::alloc::Global;
+use std::io;
+use std::io::{BufReader, Write};
+use std::process::Abort;
 
 pub const SWITCH: Peer = Peer::Udp(Endpoint {
     address: 0x7f00_0001,
@@ -36,36 +41,26 @@ pub struct MemoryWire {
 
 // Shows the number of a request, those of the lines of its block, and its reply.
 #[derive(Drop)]
-pub struct Numbers {
-    pub alloc: Global,
-}
+pub struct Numbers;
 
-fn numbers_text(alloc: Global, places: Places<'_>, reply: &[u8]) -> Result<Vec<u8>, AllocError> {
-    let mut text = Vec::new(alloc);
+fn write_numbers<E: Write>(places: &Places<'_>, reply: &[u8], errs: &mut E) -> io::Result<()> {
     match places.head {
-        None => text.extend_from_slice(b"-".as_slice())?,
-        Some(head) => {
-            let number = format!(in alloc; "{head}")?;
-            text.extend_from_slice(number.as_bytes())?;
-        }
+        None => write!(errs, "-")?,
+        Some(head) => write!(errs, "{head}")?,
     }
     for line in places.lines {
-        let number = format!(in alloc; " {line}")?;
-        text.extend_from_slice(number.as_bytes())?;
+        write!(errs, " {line}")?;
     }
-    text.extend_from_slice(b": ".as_slice())?;
-    text.extend_from_slice(reply)?;
-    text.extend_from_slice(b"\n".as_slice())?;
-    Ok(text)
+    errs.write_all(b": ")?;
+    errs.write_all(reply)?;
+    errs.write_all(b"\n")
 }
 
 impl Explains for Numbers {
     ghost shows = { λ _ _ _. Unit {0} };
 
     fn show<E: Write>(&self, places: Places<'_>, reply: &[u8], errs: &mut E) {
-        if let Ok(text) = numbers_text(self.alloc, places, reply) {
-            let _ = errs.write_all(&text);
-        }
+        let _ = write_numbers(&places, reply, errs);
     }
 }
 
@@ -100,6 +95,100 @@ impl Wire for MemoryWire {
             Arrival::Broken => Err(WireFailed),
         }
     }
+}
+
+/// How a request ended, the lines that were sent, and the text that was printed.
+#[derive(Drop)]
+pub struct Told {
+    pub ended: Result<bool, Failure>,
+    pub sent: Vec<u8>,
+    pub printed: Vec<u8>,
+}
+
+impl Told {
+    pub fn expect(&self, rt: &impl Abort, ended: Result<bool, Failure>, sent: &str, printed: &str) {
+        assert!(rt; self.ended == ended, "{sent}");
+        assert!(rt; self.sent.as_slice() == sent.as_bytes(), "{sent}");
+        assert!(rt; self.printed.as_slice() == printed.as_bytes(), "{printed}");
+    }
+}
+
+fn new_wire(alloc: Global, switch: Peer, left: &'static [Arrival]) -> MemoryWire {
+    MemoryWire {
+        switch,
+        left,
+        sent: Vec::new(alloc),
+    }
+}
+
+/// Sends the lines to a switch over a wire in memory.
+pub fn told_lines<L: Lines, E: Write>(
+    alloc: Global,
+    switch: Peer,
+    lines: &mut L,
+    arrivals: &'static [Arrival],
+    errs: &mut E,
+) -> Told {
+    let mut wire = new_wire(alloc, switch, arrivals);
+    let mut printed = Vec::new(alloc);
+    let ended = tell(
+        alloc,
+        lines,
+        &mut wire,
+        switch,
+        &mut printed,
+        errs,
+        &Numbers,
+    );
+    let MemoryWire {
+        switch: _,
+        left: _,
+        sent,
+    } = wire;
+    Told {
+        ended,
+        sent,
+        printed,
+    }
+}
+
+/// The same as one change.
+pub fn told_change<L: Lines, E: Write>(
+    alloc: Global,
+    lines: &mut L,
+    arrivals: &'static [Arrival],
+    errs: &mut E,
+) -> Told {
+    let mut wire = new_wire(alloc, SWITCH, arrivals);
+    let mut printed = Vec::new(alloc);
+    let ended = tell_change(
+        alloc,
+        lines,
+        &mut wire,
+        SWITCH,
+        &mut printed,
+        errs,
+        &Numbers,
+    );
+    let MemoryWire {
+        switch: _,
+        left: _,
+        sent,
+    } = wire;
+    Told {
+        ended,
+        sent,
+        printed,
+    }
+}
+
+/// The lines of an input.
+pub fn lines_of<'a>(
+    rt: &impl Abort,
+    alloc: Global,
+    input: &'a [u8],
+) -> InputLines<BufReader<&'a [u8]>> {
+    InputLines::new(BufReader::new(alloc, input).expect(rt, "memory"))
 }
 
 // It is sent these lines in their order, and gives the reply of each, or none in time. Another line is not sent.

@@ -1,10 +1,8 @@
 //! The text for people about the requests that were not done.
 
-use super::memory_wire::{Arrival, MemoryWire, Numbers, SWITCH};
+use super::memory_wire::{Arrival, SWITCH, lines_of, told_change, told_lines};
 use command_line::Failure;
-use control_client::{InputLines, WordLines, tell, tell_change};
-use std::io::BufReader;
-use std::test::Fail;
+use control_client::WordLines;
 
 // An input, the replies, and the text about its requests that were not done.
 struct Shown {
@@ -61,85 +59,43 @@ const SHOWN: [Shown; 5] = [
 ];
 
 #[test]
-fn refused_requests_are_shown(rt: HostRuntime) -> Result<(), Fail> {
+fn refused_requests_are_shown(rt: HostRuntime) {
     for row in &SHOWN {
-        let mut wire = MemoryWire {
-            switch: SWITCH,
-            left: row.arrivals,
-            sent: Vec::new(rt.alloc()),
-        };
-        let mut out = Vec::new(rt.alloc());
+        let mut lines = lines_of(&rt, rt.alloc(), row.input.as_bytes());
         let mut errs = Vec::new(rt.alloc());
-        let reader = BufReader::new(rt.alloc(), row.input.as_bytes())?;
-        let mut lines = InputLines::new(reader);
-        let numbers = Numbers { alloc: rt.alloc() };
-        let ended = tell(
-            rt.alloc(),
-            &mut lines,
-            &mut wire,
-            SWITCH,
-            &mut out,
-            &mut errs,
-            &numbers,
-        );
-        assert!(rt; ended == row.ended);
-        assert!(rt; errs.as_slice() == row.shown.as_bytes(), "{:?}", row.input);
+        let told = told_lines(rt.alloc(), SWITCH, &mut lines, row.arrivals, &mut errs);
+        assert!(rt; told.ended == row.ended);
+        assert!(rt; errs.as_slice() == row.shown.as_bytes(), "{}", row.shown);
     }
-    Ok(())
 }
+
+const CHANGE: &[u8] = b"# first\n\nadd 10.0.0.2:53\r\n \t\nleave 10.0.0.2:53 7";
+
+const CHANGE_REFUSED: [Arrival; 1] = [Arrival::Answer("refused G3 line 2")];
 
 // If all lines are one change, the numbers are those of the lines that were sent.
 #[test]
-fn refused_change_is_shown(rt: HostRuntime) -> Result<(), Fail> {
-    let mut wire = MemoryWire {
-        switch: SWITCH,
-        left: &[Arrival::Answer("refused G3 line 2")],
-        sent: Vec::new(rt.alloc()),
-    };
-    let mut out = Vec::new(rt.alloc());
+fn refused_change_is_shown(rt: HostRuntime) {
+    let mut lines = lines_of(&rt, rt.alloc(), CHANGE);
     let mut errs = Vec::new(rt.alloc());
-    let input = b"# first\n\nadd 10.0.0.2:53\r\n \t\nleave 10.0.0.2:53 7".as_slice();
-    let mut lines = InputLines::new(BufReader::new(rt.alloc(), input)?);
-    let numbers = Numbers { alloc: rt.alloc() };
-    let ended = tell_change(
-        rt.alloc(),
-        &mut lines,
-        &mut wire,
-        SWITCH,
-        &mut out,
-        &mut errs,
-        &numbers,
-    );
-    assert!(rt; ended == Ok(true));
-    assert!(rt; out.as_slice() == b"refused G3 line 2\n".as_slice());
+    let told = told_change(rt.alloc(), &mut lines, &CHANGE_REFUSED, &mut errs);
+    assert!(rt; told.ended == Ok(true));
+    assert!(rt; told.printed.as_slice() == b"refused G3 line 2\n".as_slice());
     assert!(rt; errs.as_slice() == b"- 3 5: refused G3 line 2\n".as_slice());
-    Ok(())
 }
+
+const WORDS_REFUSED: [Arrival; 3] = [
+    Arrival::Answer("ok"),
+    Arrival::Answer("refused C1"),
+    Arrival::Answer("refused C1 line 1"),
+];
 
 // Words count from 1.
 #[test]
 fn refused_words_are_shown(rt: HostRuntime) {
-    let mut wire = MemoryWire {
-        switch: SWITCH,
-        left: &[
-            Arrival::Answer("ok"),
-            Arrival::Answer("refused C1"),
-            Arrival::Answer("refused C1 line 1"),
-        ],
-        sent: Vec::new(rt.alloc()),
-    };
-    let mut out = Vec::new(rt.alloc());
+    let mut words = WordLines::new(&["show", "", "all 1", "# no comment"]);
     let mut errs = Vec::new(rt.alloc());
-    let numbers = Numbers { alloc: rt.alloc() };
-    let ended = tell(
-        rt.alloc(),
-        &mut WordLines::new(&["show", "", "all 1", "# no comment"]),
-        &mut wire,
-        SWITCH,
-        &mut out,
-        &mut errs,
-        &numbers,
-    );
-    assert!(rt; ended == Ok(true));
+    let told = told_lines(rt.alloc(), SWITCH, &mut words, &WORDS_REFUSED, &mut errs);
+    assert!(rt; told.ended == Ok(true));
     assert!(rt; errs.as_slice() == b"2: refused C1\n3 4: refused C1 line 1\n".as_slice());
 }

@@ -1,12 +1,12 @@
 //! Lines sent over a wire in memory.
 
-use super::memory_wire::{Arrival, MemoryWire, Numbers, SWITCH};
+use super::memory_wire::{Arrival, SWITCH, lines_of, told_change, told_lines};
 use command_line::Failure;
-use control_client::{InputLines, LONGEST_LINE, Lines, Peer, WordLines, tell, tell_change};
+use control_client::{LONGEST_LINE, Peer, WordLines};
 use std::alloc::Global;
 use std::io;
-use std::io::{BufReader, ErrorKind, Read, Write};
-use std::test::Fail;
+use std::io::{ErrorKind, Write};
+use std::process::Abort;
 
 // Each write of it fails.
 #[derive(Drop)]
@@ -130,42 +130,12 @@ const ROWS: [Row; 10] = [
     },
 ];
 
-fn is_told<L: Lines>(
-    alloc: Global,
-    switch: Peer,
-    lines: &mut L,
-    arrivals: &'static [Arrival],
-    ended: Result<bool, Failure>,
-    texts: (&str, &str),
-) -> bool {
-    let mut wire = MemoryWire {
-        switch,
-        left: arrivals,
-        sent: Vec::new(alloc),
-    };
-    let mut out = Vec::new(alloc);
-    let numbers = Numbers { alloc };
-    let done = tell(
-        alloc, lines, &mut wire, switch, &mut out, &mut Full, &numbers,
-    );
-    done == ended
-        && wire.sent.as_slice() == texts.0.as_bytes()
-        && out.as_slice() == texts.1.as_bytes()
-}
-
 #[test]
 fn lines_are_told_in_order(rt: HostRuntime) {
     for row in &ROWS {
         let mut lines = WordLines::new(row.lines);
-        let told = is_told(
-            rt.alloc(),
-            SWITCH,
-            &mut lines,
-            row.arrivals,
-            row.ended,
-            (row.sent, row.printed),
-        );
-        assert!(rt; told);
+        let told = told_lines(rt.alloc(), SWITCH, &mut lines, row.arrivals, &mut Full);
+        told.expect(&rt, row.ended, row.sent, row.printed);
     }
 }
 
@@ -209,136 +179,71 @@ const THREE: [Arrival; 3] = [
     Arrival::Answer("ok"),
 ];
 
-fn sends<R: Read + Drop>(alloc: Global, input: R, sent: &str) -> bool {
-    let Ok(input) = BufReader::new(alloc, input) else {
-        return false;
-    };
-    let mut wire = MemoryWire {
-        switch: SWITCH,
-        left: &THREE,
-        sent: Vec::new(alloc),
-    };
-    let mut out = Vec::new(alloc);
-    let ended = tell(
-        alloc,
-        &mut InputLines::new(input),
-        &mut wire,
-        SWITCH,
-        &mut out,
-        &mut Full,
-        &Numbers { alloc },
-    );
-    ended == Ok(false) && wire.sent.as_slice() == sent.as_bytes()
-}
-
 #[test]
 fn input_is_cut_into_lines(rt: HostRuntime) {
     for (input, sent) in &INPUTS {
-        assert!(rt; sends(rt.alloc(), input.as_bytes(), sent), "{input:?}");
+        let mut lines = lines_of(&rt, rt.alloc(), input.as_bytes());
+        let told = told_lines(rt.alloc(), SWITCH, &mut lines, &THREE, &mut Full);
+        assert!(rt; told.ended == Ok(false), "{input}");
+        assert!(rt; told.sent.as_slice() == sent.as_bytes(), "{input}");
     }
 }
 
 #[test]
-fn input_is_one_change(rt: HostRuntime) -> Result<(), Fail> {
+fn input_is_one_change(rt: HostRuntime) {
     for (input, sent) in &CHANGES {
-        let mut wire = MemoryWire {
-            switch: SWITCH,
-            left: &THREE,
-            sent: Vec::new(rt.alloc()),
-        };
-        let mut out = Vec::new(rt.alloc());
-        let reader = BufReader::new(rt.alloc(), input.as_bytes())?;
-        let mut lines = InputLines::new(reader);
-        let ended = tell_change(
-            rt.alloc(),
-            &mut lines,
-            &mut wire,
-            SWITCH,
-            &mut out,
-            &mut Full,
-            &Numbers { alloc: rt.alloc() },
-        );
-        assert!(rt; ended == Ok(false), "{input:?}");
-        assert!(rt; wire.sent.as_slice() == sent.as_bytes(), "{input:?}");
-        assert!(rt; out.as_slice() == b"ok\n".as_slice(), "{input:?}");
+        let mut lines = lines_of(&rt, rt.alloc(), input.as_bytes());
+        let told = told_change(rt.alloc(), &mut lines, &THREE, &mut Full);
+        told.expect(&rt, Ok(false), sent, "ok\n");
     }
-    Ok(())
 }
 
 // Words are sent as they are: none is skipped, and no CR is dropped.
 #[test]
-fn words_are_one_change(rt: HostRuntime) -> Result<(), Fail> {
-    let mut wire = MemoryWire {
-        switch: SWITCH,
-        left: &THREE,
-        sent: Vec::new(rt.alloc()),
-    };
-    let mut out = Vec::new(rt.alloc());
-    let mut lines = WordLines::new(&["# first", "add 10.0.0.2:53\r", ""]);
-    let ended = tell_change(
-        rt.alloc(),
-        &mut lines,
-        &mut wire,
-        SWITCH,
-        &mut out,
-        &mut Full,
-        &Numbers { alloc: rt.alloc() },
+fn words_are_one_change(rt: HostRuntime) {
+    let mut words = WordLines::new(&["# first", "add 10.0.0.2:53\r", ""]);
+    let told = told_change(rt.alloc(), &mut words, &THREE, &mut Full);
+    told.expect(
+        &rt,
+        Ok(false),
+        "all 3\n# first\nadd 10.0.0.2:53\r\n\n",
+        "ok\n",
     );
-    assert!(rt; ended == Ok(false));
-    assert!(rt; wire.sent.as_slice() == b"all 3\n# first\nadd 10.0.0.2:53\r\n\n".as_slice());
-    Ok(())
+}
+
+// A line that is longer than a datagram may carry, and then these.
+fn long_line(rt: &impl Abort, alloc: Global, rest: &[u8]) -> Vec<u8> {
+    let mut input = vec![in alloc; b'a'; LONGEST_LINE + 1].expect(rt, "memory");
+    input.extend_from_slice(rest).expect(rt, "memory");
+    input
 }
 
 #[test]
-fn long_line_is_not_sent(rt: HostRuntime) -> Result<(), Fail> {
-    let mut input = vec![in rt.alloc(); b'a'; LONGEST_LINE + 1]?;
-    input.extend_from_slice(b"\nshow\n".as_slice())?;
-    let reader = BufReader::new(rt.alloc(), input.as_slice())?;
-    let told = is_told(
-        rt.alloc(),
-        SWITCH,
-        &mut InputLines::new(reader),
-        &THREE,
-        Ok(true),
-        ("show\n", "refused C2\nok\n"),
-    );
-    assert!(rt; told);
-    Ok(())
+fn long_line_is_not_sent(rt: HostRuntime) {
+    let input = long_line(&rt, rt.alloc(), b"\nshow\n");
+    let mut lines = lines_of(&rt, rt.alloc(), &input);
+    let told = told_lines(rt.alloc(), SWITCH, &mut lines, &THREE, &mut Full);
+    told.expect(&rt, Ok(true), "show\n", "refused C2\nok\n");
+}
+
+fn long_line_is_sent(rt: &impl Abort, alloc: Global) {
+    let input = long_line(rt, alloc, b"\n");
+    let mut lines = lines_of(rt, alloc, &input);
+    let told = told_lines(alloc, Peer::Unix, &mut lines, &THREE, &mut Full);
+    assert!(rt; told.ended == Ok(false));
+    assert!(rt; told.sent.as_slice() == input.as_slice());
 }
 
 // On a stream a longer line is one request, too. A line with an LF in it, and a block with fewer lines than it says, are none.
 #[test]
-fn stream_carries_other_lines(rt: HostRuntime) -> Result<(), Fail> {
-    let mut input = vec![in rt.alloc(); b'a'; LONGEST_LINE + 1]?;
-    input.extend_from_slice(b"\n".as_slice())?;
-    let reader = BufReader::new(rt.alloc(), input.as_slice())?;
-    let mut wire = MemoryWire {
-        switch: Peer::Unix,
-        left: &THREE,
-        sent: Vec::new(rt.alloc()),
-    };
-    let mut out = Vec::new(rt.alloc());
-    let mut lines = InputLines::new(reader);
-    let numbers = Numbers { alloc: rt.alloc() };
-    let ended = tell(
-        rt.alloc(),
-        &mut lines,
-        &mut wire,
-        Peer::Unix,
-        &mut out,
-        &mut Full,
-        &numbers,
-    );
-    assert!(rt; ended == Ok(false));
-    assert!(rt; wire.sent.as_slice() == input.as_slice());
-    let told = is_told(
-        rt.alloc(),
-        Peer::Unix,
-        &mut WordLines::new(&["show\nstop", "all 1", "show", "all 0", "all 2", "show"]),
-        &THREE,
+fn stream_carries_other_lines(rt: HostRuntime) {
+    long_line_is_sent(&rt, rt.alloc());
+    let mut words = WordLines::new(&["show\nstop", "all 1", "show", "all 0", "all 2", "show"]);
+    let told = told_lines(rt.alloc(), Peer::Unix, &mut words, &THREE, &mut Full);
+    told.expect(
+        &rt,
         Ok(true),
-        ("all 1\nshow\nall 0\n", "refused C1\nok\nok\nrefused C1\n"),
+        "all 1\nshow\nall 0\n",
+        "refused C1\nok\nok\nrefused C1\n",
     );
-    assert!(rt; told);
-    Ok(())
 }
