@@ -1,11 +1,10 @@
 //! Streams that fail: each read and each write in turn, and the flush. Commands that do not read.
 
 use super::streams::{Sink, Source};
-use super::{FIRST, SAMPLE_PACKET, assert_wrote, run_into, run_on, told};
-use std::alloc::{AllocError, Global};
+use super::{FIRST, SAMPLE_PACKET, assert_wrote, run_into, run_on};
+use std::alloc::Global;
 use std::io::{ErrorKind, Read};
 use std::process::Abort;
-use std::test::Fail;
 
 const G8: &str = "\
 G8: Memory for the new configuration was refused.
@@ -72,43 +71,11 @@ fn expect_failure<R: Read + Drop>(
     input: R,
     out: &mut Sink,
     line: &str,
-) -> Result<(), Fail> {
+) {
     let mut errs = Sink::open(alloc);
-    let status = run_into(alloc, words, input, out, &mut errs)?;
-    let told = errs.text();
-    assert_eq!(rt;
-        (status, told),
-        (Some(3), Some(line)),
-        "{words:?} after {} writes",
-        out.writes
-    );
-    Ok(())
-}
-
-// The write after this many fails.
-fn expect_failed_write(
-    rt: &impl Abort,
-    alloc: Global,
-    words: &[&str],
-    input: &[u8],
-    limit: usize,
-) -> Result<(), Fail> {
-    let mut out = Sink::new(alloc, limit, true);
-    expect_failure(rt, alloc, words, input, &mut out, "failed E2\n")
-}
-
-// All is written, and the flush fails.
-fn expect_failed_flush(
-    rt: &impl Abort,
-    alloc: Global,
-    words: &[&str],
-    input: &[u8],
-    whole: &Sink,
-) -> Result<(), Fail> {
-    let mut out = Sink::new(alloc, whole.writes, false);
-    expect_failure(rt, alloc, words, input, &mut out, "failed E2\n")?;
-    assert_eq!(rt; out.text(), whole.text(), "{words:?} at the flush");
-    Ok(())
+    let status = run_into(rt, alloc, words, input, out, &mut errs);
+    let is_told = status == Some(3) && errs.text() == Some(line);
+    assert!(rt; is_told, "{words:?} after {} writes", out.writes);
 }
 
 fn expect_failed_writes(
@@ -117,78 +84,56 @@ fn expect_failed_writes(
     words: &[&str],
     input: &[u8],
     whole: &Sink,
-) -> Result<(), Fail> {
-    assert!(rt; whole.writes > 0, "{words:?}");
+) {
+    assert!(rt; whole.writes > 0);
+    // The write after this many fails.
     for limit in 0..whole.writes {
-        expect_failed_write(rt, alloc, words, input, limit)?;
+        let mut out = Sink::new(alloc, limit, true);
+        expect_failure(rt, alloc, words, input, &mut out, "failed E2\n");
     }
-    expect_failed_flush(rt, alloc, words, input, whole)
+    // All is written, and the flush fails.
+    let mut out = Sink::new(alloc, whole.writes, false);
+    expect_failure(rt, alloc, words, input, &mut out, "failed E2\n");
+    assert!(rt; out.text() == whole.text(), "{words:?} at the flush");
 }
 
 #[test]
-fn failed_write_is_e2(rt: HostRuntime) -> Result<(), Fail> {
+fn failed_write_is_e2(rt: HostRuntime) {
     for (words, input) in &COMMANDS {
-        let whole = told(rt.alloc(), words, input)?;
-        expect_failed_writes(&rt, rt.alloc(), words, input, &whole.out)?;
+        let whole = run_on(&rt, rt.alloc(), words, *input);
+        expect_failed_writes(&rt, rt.alloc(), words, input, &whole.out);
     }
-    Ok(())
 }
 
-// The command reads the whole program and prints this text. Returns the number of its reads.
-fn whole_reads(rt: &impl Abort, alloc: Global, words: &[&str], text: &str) -> Result<usize, Fail> {
-    let mut input = Source::open(PROGRAM, 7);
-    let told = run_on(alloc, words, &mut input)?;
-    assert_eq!(rt;
-        (told.status, told.out.text()),
-        (Some(0), Some(text)),
-        "{words:?}"
-    );
-    Ok(input.reads)
-}
-
-// The read after this many fails; that is reported, and nothing else.
-fn expect_failed_read(
-    rt: &impl Abort,
-    alloc: Global,
-    words: &[&str],
-    limit: usize,
-) -> Result<(), Fail> {
-    let input = Source::new(PROGRAM, 7, limit, ErrorKind::BrokenPipe);
-    let mut out = Sink::open(alloc);
-    expect_failure(rt, alloc, words, input, &mut out, "failed E1\n")?;
-    assert_eq!(rt; out.text(), Some(""), "{words:?} after {limit} reads");
-    Ok(())
-}
-
-// The command reads the whole program in several reads, any of which may fail.
-fn expect_failed_reads(
-    rt: &impl Abort,
-    alloc: Global,
-    words: &[&str],
-    text: &str,
-) -> Result<(), Fail> {
-    let reads = whole_reads(rt, alloc, words, text)?;
-    assert!(rt; reads > 5, "{words:?}");
-    for limit in 0..reads {
-        expect_failed_read(rt, alloc, words, limit)?;
+// The command reads the whole program in several reads and prints this text. Each of the reads fails in turn; that is
+// reported, and nothing else.
+fn expect_failed_reads(rt: &impl Abort, alloc: Global, words: &[&str], text: &str) {
+    let mut whole = Source::open(PROGRAM, 7);
+    let told = run_on(rt, alloc, words, &mut whole);
+    assert_wrote(rt, &told, 0, text, "");
+    assert!(rt; whole.reads > 5);
+    for limit in 0..whole.reads {
+        let input = Source::new(PROGRAM, 7, limit, ErrorKind::BrokenPipe);
+        let mut out = Sink::open(alloc);
+        expect_failure(rt, alloc, words, input, &mut out, "failed E1\n");
+        assert!(rt; out.text() == Some(""), "after {limit} reads");
     }
-    Ok(())
 }
 
 #[test]
-fn failed_read_is_e1(rt: HostRuntime) -> Result<(), Fail> {
+fn failed_read_is_e1(rt: HostRuntime) {
     let alloc = rt.alloc();
-    expect_failed_reads(&rt, alloc, &["check"], "accepted 4\n")?;
+    expect_failed_reads(&rt, alloc, &["check"], "accepted 4\n");
     let run = ["run", "--packet", SAMPLE_PACKET];
-    expect_failed_reads(&rt, alloc, &run, "value 65535 steps 3 kept 29\n")
+    expect_failed_reads(&rt, alloc, &run, "value 65535 steps 3 kept 29\n");
 }
 
 // The reader may want memory too.
 #[test]
-fn read_without_memory_is_e3(rt: HostRuntime) -> Result<(), Fail> {
+fn read_without_memory_is_e3(rt: HostRuntime) {
     let input = Source::new(PROGRAM, 7, 1, ErrorKind::OutOfMemory);
     let mut out = Sink::open(rt.alloc());
-    expect_failure(&rt, rt.alloc(), &["check"], input, &mut out, "failed E3\n")
+    expect_failure(&rt, rt.alloc(), &["check"], input, &mut out, "failed E3\n");
 }
 
 // The output of commands that read no input, after their status.
@@ -206,54 +151,43 @@ const UNREAD: [(&[&str], u8, &str); 6] = [
 ];
 
 // The command ends with this status, prints this text and reads nothing.
-fn assert_unread(
-    rt: &impl Abort,
-    alloc: Global,
-    words: &[&str],
-    status: u8,
-    text: &str,
-) -> Result<(), Fail> {
+fn assert_unread(rt: &impl Abort, alloc: Global, words: &[&str], status: u8, text: &str) {
     let mut input = Source::open(PROGRAM, 7);
-    let told = run_on(alloc, words, &mut input)?;
-    assert_wrote(rt, &told, status, text, "", &text);
-    assert_eq!(rt; input.reads, 0, "{text}");
-    Ok(())
+    let told = run_on(rt, alloc, words, &mut input);
+    assert_wrote(rt, &told, status, text, "");
+    assert!(rt; input.reads == 0, "{text}");
 }
 
 #[test]
-fn other_commands_read_nothing(rt: HostRuntime) -> Result<(), Fail> {
+fn other_commands_read_nothing(rt: HostRuntime) {
     for (words, status, text) in &UNREAD {
-        assert_unread(&rt, rt.alloc(), words, *status, text)?;
+        assert_unread(&rt, rt.alloc(), words, *status, text);
     }
-    Ok(())
-}
-
-// The packet is refused by this line before the program is read, and before the expression is looked at: it is none.
-fn assert_bad_packet(rt: &impl Abort, alloc: Global, packet: &str, line: &str) -> Result<(), Fail> {
-    assert_unread(rt, alloc, &["run", "--packet", packet], 1, line)?;
-    let words = ["run", "--packet", packet, "--expr", "udp and"];
-    assert_unread(rt, alloc, &words, 1, line)
 }
 
 // The digit 4, repeated, and the last one.
-fn put_digits(text: &mut String, fours: usize, last: char) -> Result<(), AllocError> {
+fn digits(rt: &impl Abort, alloc: Global, fours: usize, last: char) -> String {
+    let mut text = String::new(alloc);
     for _ in 0..fours {
-        text.push('4')?;
+        text.push('4').expect(rt, "memory");
     }
-    text.push(last)
+    text.push(last).expect(rt, "memory");
+    text
 }
 
 // Both are longer than a word of a command line may be. The first has no digit at its end.
 const LONG: [(char, &str); 2] = [('g', "refused C1\n"), ('4', "refused C3\n")];
 
+// The packet is refused by this line before the program is read, and before the expression is looked at: it is none.
 #[test]
-fn bad_hex_comes_first(rt: HostRuntime) -> Result<(), Fail> {
+fn bad_hex_comes_first(rt: HostRuntime) {
     for (last, line) in &LONG {
-        let mut packet = String::new(rt.alloc());
-        put_digits(&mut packet, 131_071, *last)?;
-        assert_bad_packet(&rt, rt.alloc(), packet.as_str(), line)?;
+        let packet = digits(&rt, rt.alloc(), 131_071, *last);
+        let packet = packet.as_str();
+        assert_unread(&rt, rt.alloc(), &["run", "--packet", packet], 1, line);
+        let words = ["run", "--packet", packet, "--expr", "udp and"];
+        assert_unread(&rt, rt.alloc(), &words, 1, line);
     }
-    Ok(())
 }
 
 // Words, how many writes of results are taken, and the status.
@@ -266,29 +200,18 @@ const STATUSES: [(&[&str], usize, u8); 6] = [
     (&["check"], 0, 3),
 ];
 
-// The status if this many writes of results are taken, and this many of errors.
-fn limited_status(
-    alloc: Global,
-    words: &[&str],
-    limit: usize,
-    taken: usize,
-) -> Result<Option<u8>, AllocError> {
-    let mut out = Sink::new(alloc, limit, true);
-    let mut errs = Sink::new(alloc, taken, false);
-    run_into(alloc, words, PROGRAM, &mut out, &mut errs)
-}
-
+// At most this many writes of errors are taken.
 #[test]
-fn failing_errors_change_no_status(rt: HostRuntime) -> Result<(), Fail> {
+fn failing_errors_change_no_status(rt: HostRuntime) {
     for (words, limit, wanted) in &STATUSES {
         for taken in 0..2 {
-            let status = limited_status(rt.alloc(), words, *limit, taken)?;
-            assert_eq!(rt;
-                status,
-                Some(*wanted),
+            let mut out = Sink::new(rt.alloc(), *limit, true);
+            let mut errs = Sink::new(rt.alloc(), taken, false);
+            let status = run_into(&rt, rt.alloc(), words, PROGRAM, &mut out, &mut errs);
+            assert!(rt;
+                status == Some(*wanted),
                 "{words:?}, {taken} writes of errors"
             );
         }
     }
-    Ok(())
 }

@@ -1,11 +1,10 @@
 //! The command `replay`: its writes, input that fails and output that fails.
 
 use super::streams::{Sink, Source};
-use super::{assert_wrote, run_into, run_on, told};
-use std::alloc::{AllocError, Global};
+use super::{assert_wrote, run_into, run_on};
+use std::alloc::Global;
 use std::io::ErrorKind;
 use std::process::Abort;
-use std::test::Fail;
 
 const SCRIPT: &str = "add 10.0.0.2:53\n\
     join 10.0.0.2:53 1 127.0.0.1:9001\n\
@@ -41,33 +40,28 @@ const REPLIES: &str = "ok version 1\n\
 const READS: [(&str, usize); 2] = [("show\nsweep\nshow\n", 1), ("show\nsweep\nshow", 2)];
 
 #[test]
-fn replies_of_one_read_are_one_write(rt: HostRuntime) -> Result<(), Fail> {
+fn replies_of_one_read_are_one_write(rt: HostRuntime) {
     for (script, writes) in &READS {
-        let told = told(rt.alloc(), &["replay"], script.as_bytes())?;
-        assert_eq!(rt; told.out.writes, *writes, "{script:?}");
+        let told = run_on(&rt, rt.alloc(), &["replay"], script.as_bytes());
+        assert!(rt; told.out.writes == *writes, "{script}");
     }
-    Ok(())
 }
 
-fn put_shows(script: &mut String, count: usize) -> Result<(), AllocError> {
+fn shows(rt: &impl Abort, alloc: Global, count: usize) -> String {
+    let mut script = String::new(alloc);
     for _ in 0..count {
-        script.push_str("show\n")?;
+        script.push_str("show\n").expect(rt, "memory");
     }
-    Ok(())
+    script
 }
 
 // 107 of these replies, of 38 bytes each, fit a write.
 #[test]
-fn writes_have_whole_lines(rt: HostRuntime) -> Result<(), Fail> {
-    let mut script = String::new(rt.alloc());
-    put_shows(&mut script, 300)?;
-    let told = told(rt.alloc(), &["replay"], script.as_bytes())?;
-    let out = &told.out;
-    assert_eq!(rt;
-        (out.writes, out.longest, out.whole_lines),
-        (3, 107 * 38, true)
-    );
-    Ok(())
+fn writes_have_whole_lines(rt: HostRuntime) {
+    let script = shows(&rt, rt.alloc(), 300);
+    let told = run_on(&rt, rt.alloc(), &["replay"], script.as_bytes());
+    let found = (told.out.writes, told.out.longest, told.out.whole_lines);
+    assert!(rt; found == (3, 107 * 38, true));
 }
 
 const SHORT_SCRIPT: &[u8] = b"add 10.0.0.2:53\nshow\nsweep";
@@ -83,13 +77,12 @@ const FAILED_READS: [(usize, &str); 5] = [
 
 // Each line that was read whole is answered before the read that fails.
 #[test]
-fn script_that_cannot_be_read_on(rt: HostRuntime) -> Result<(), Fail> {
+fn script_that_cannot_be_read_on(rt: HostRuntime) {
     for (reads, replies) in &FAILED_READS {
         let input = Source::new(SHORT_SCRIPT, 6, *reads, ErrorKind::BrokenPipe);
-        let told = run_on(rt.alloc(), &["replay"], input)?;
-        assert_wrote(&rt, &told, 3, replies, "failed E1\n", reads);
+        let told = run_on(&rt, rt.alloc(), &["replay"], input);
+        assert_wrote(&rt, &told, 3, replies, "failed E1\n");
     }
-    Ok(())
 }
 
 const SUMMARY: &str = "deliver 10.0.0.2:53 3 1\n\
@@ -97,36 +90,38 @@ const SUMMARY: &str = "deliver 10.0.0.2:53 3 1\n\
     refused C1 1\n\
     refused G3 1\n";
 
-fn both(alloc: Global) -> Result<String, AllocError> {
-    let mut text = String::from_str(alloc, REPLIES)?;
-    text.push_str(SUMMARY)?;
-    Ok(text)
+fn both(rt: &impl Abort, alloc: Global) -> String {
+    let mut text = String::from_str(alloc, REPLIES).expect(rt, "memory");
+    text.push_str(SUMMARY).expect(rt, "memory");
+    text
 }
 
 // This many writes are taken, of the two that give all.
-fn assert_limited(rt: &impl Abort, alloc: Global, limit: usize, all: &str) -> Result<(), Fail> {
+fn assert_limited(rt: &impl Abort, alloc: Global, limit: usize, all: &str) {
     let mut out = Sink::new(alloc, limit, true);
     let mut errs = Sink::open(alloc);
     let words = ["replay", "--summary"];
-    let status = run_into(alloc, &words, SCRIPT.as_bytes(), &mut out, &mut errs)?;
+    let status = run_into(rt, alloc, &words, SCRIPT.as_bytes(), &mut out, &mut errs);
     let written = out.text().unwrap_or("no text");
     assert!(rt; all.starts_with(written), "{limit}: {written}");
     let is_whole = limit == 2;
-    assert_eq!(rt; written.len() == all.len(), is_whole, "{limit}");
-    assert_eq!(rt; status, Some(if is_whole { 0 } else { 3 }), "{limit}");
-    let wanted = if is_whole { "" } else { "failed E2\n" };
-    assert_eq!(rt; errs.text(), Some(wanted), "{limit}");
-    Ok(())
+    assert!(rt; (written.len() == all.len()) == is_whole, "{limit}");
+    let (wanted, line) = if is_whole {
+        (0, "")
+    } else {
+        (3, "failed E2\n")
+    };
+    assert!(rt; status == Some(wanted), "{limit}");
+    assert!(rt; errs.text() == Some(line), "{limit}");
 }
 
 // The output has the replies and the summary up to the write that fails. Each of the two is one write.
 #[test]
-fn summary_that_cannot_be_written(rt: HostRuntime) -> Result<(), Fail> {
-    let all = both(rt.alloc())?;
+fn summary_that_cannot_be_written(rt: HostRuntime) {
+    let all = both(&rt, rt.alloc());
     for limit in 0..3usize {
-        assert_limited(&rt, rt.alloc(), limit, &all)?;
+        assert_limited(&rt, rt.alloc(), limit, &all);
     }
-    Ok(())
 }
 
 // Words, and the replies before a read that fails.
@@ -138,11 +133,10 @@ const UNSUMMED: [(&[&str], &str); 3] = [
 
 // After a failed read there is no summary, and with `--quiet` nothing.
 #[test]
-fn failed_read_has_no_summary(rt: HostRuntime) -> Result<(), Fail> {
+fn failed_read_has_no_summary(rt: HostRuntime) {
     for (words, replies) in &UNSUMMED {
         let input = Source::new(b"packet 45\nshow\n", 10, 1, ErrorKind::BrokenPipe);
-        let told = run_on(rt.alloc(), words, input)?;
-        assert_wrote(&rt, &told, 3, replies, "failed E1\n", words);
+        let told = run_on(&rt, rt.alloc(), words, input);
+        assert_wrote(&rt, &told, 3, replies, "failed E1\n");
     }
-    Ok(())
 }

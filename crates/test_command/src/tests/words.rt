@@ -5,7 +5,6 @@ use super::streams::Sink;
 use command_line::{Failure, Status, refuse_arguments};
 use std::io;
 use std::io::ErrorKind;
-use std::test::Fail;
 
 // An address whose port the system picks.
 const ANY_PORT: &str = "127.0.0.1:0";
@@ -19,7 +18,7 @@ const SERVED: [(&str, &str, &str); 3] = [
 
 // Its addresses are read when it runs.
 #[test]
-fn serve_is_left_to_main(rt: HostRuntime) -> Result<(), Fail> {
+fn serve_is_left_to_main(rt: HostRuntime) {
     for (front, control, workers) in &SERVED {
         let words = [
             "serve",
@@ -30,9 +29,8 @@ fn serve_is_left_to_main(rt: HostRuntime) -> Result<(), Fail> {
             "--workers",
             *workers,
         ];
-        assert_left(&rt, rt.alloc(), &words, b"")?;
+        assert_left(&rt, rt.alloc(), &words, b"");
     }
-    Ok(())
 }
 
 // With lines, options between them, and none.
@@ -53,11 +51,10 @@ const TELL: [&[&str]; 5] = [
 ];
 
 #[test]
-fn tell_is_left_to_main(rt: HostRuntime) -> Result<(), Fail> {
+fn tell_is_left_to_main(rt: HostRuntime) {
     for words in &TELL {
-        assert_left(&rt, rt.alloc(), words, b"show")?;
+        assert_left(&rt, rt.alloc(), words, b"show");
     }
-    Ok(())
 }
 
 #[test]
@@ -65,10 +62,10 @@ fn want_of_memory_is_e3(rt: HostRuntime) {
     let wanted = (Status::Failed, Some("failed E3\n"));
     let mut errs = Sink::open(rt.alloc());
     let status = Failure::OutOfMemory.report(&mut errs);
-    assert_eq!(rt; (status, errs.text()), wanted);
+    assert!(rt; (status, errs.text()) == wanted);
 
     let mut errs = Sink::open(rt.alloc());
     let no_memory = io::Error::from(ErrorKind::OutOfMemory);
     let status = refuse_arguments(&no_memory, &mut errs);
-    assert_eq!(rt; (status, errs.text()), wanted);
+    assert!(rt; (status, errs.text()) == wanted);
 }
