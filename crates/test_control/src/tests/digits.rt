@@ -10,7 +10,7 @@ const DIGITS: [u8; 70] = *b"0123456789abcdefABCDEF9081726354afbecdAFBECD00ff00FF
 
 fn are_read_alike(rt: &impl Abort, alloc: Global, digits: &[u8]) -> bool {
     let packet = packet_of_hex(alloc, digits).expect(rt, "memory");
-    match (&packet, &hex::decode(alloc, digits)) {
+    match (packet, hex::decode(alloc, digits)) {
         (Ok(packet), Ok(expected)) => packet == expected,
         (Err(Reason::BadForm), Err(FromHexError::InvalidHexCharacter { .. })) => true,
         (Err(Reason::BadForm), Err(FromHexError::OddLength)) => true,

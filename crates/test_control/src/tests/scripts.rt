@@ -76,26 +76,18 @@ impl Write for Room {
     }
 }
 
-// Replays the bytes of a reader; returns what was written, and how it ended.
-fn replayed_into(
+// Whether the bytes of a reader are replayed with this result, and these bytes are written.
+fn is_replayed(
     alloc: Global,
-    reader: impl Read + Drop,
+    reader: Pieces<'_>,
     mut out: Room,
-) -> (Vec<u8>, Result<(), ReplayFault>) {
+    wanted: Result<(), ReplayFault>,
+    written: &[u8],
+) -> bool {
     let mut output = ToWrite::new(&mut out);
     let answer = replay(alloc, &mut FromRead::new(reader), &mut output);
-    output.into_inner();
-    let Room {
-        bytes,
-        room: _,
-        fails: _,
-    } = out;
-    (bytes, answer)
-}
-
-// The same, with room for all.
-fn replayed(alloc: Global, reader: impl Read + Drop) -> (Vec<u8>, Result<(), ReplayFault>) {
-    replayed_into(alloc, reader, room_for(alloc, usize::MAX, true))
+    let _ = output.into_inner();
+    answer == wanted && out.bytes.as_slice() == written
 }
 
 // Bytes are replayed to bytes: the text of the script is appended.
@@ -110,10 +102,11 @@ fn replay_bytes(alloc: Global, script: &[u8], out: &mut Vec<u8>) -> Result<(), R
 }
 
 fn expect(rt: &impl Abort, alloc: Global, script: &[u8], replies: &str) {
-    for most in [1, 7, usize::MAX] {
-        let (written, answer) = replayed(alloc, in_pieces(script, most));
-        assert!(rt; answer == Ok(()));
-        assert!(rt; written.as_slice() == replies.as_bytes(), "{replies}");
+    for most in &[1, 7, usize::MAX] {
+        let reader = in_pieces(script, *most);
+        let out = room_for(alloc, usize::MAX, true);
+        let is_told = is_replayed(alloc, reader, out, Ok(()), replies.as_bytes());
+        assert!(rt; is_told, "{replies}");
     }
 }
 
@@ -277,26 +270,26 @@ fn first_replies(lines: usize) -> &'static [u8] {
 // whole.
 fn expect_failed_reads(rt: &impl Abort, alloc: Global) {
     let script = SCRIPT.as_bytes();
+    let mut lines = 0usize;
     for place in 0..=script.len() {
         let mut reader = in_pieces(script, 10);
         reader.fails_at = Some(place);
-        let lines = script[..place]
-            .iter()
-            .filter(|byte| **byte == b'\n')
-            .count();
-        let (written, answer) = replayed(alloc, reader);
-        assert!(rt; answer == Err(ReplayFault::ReadFailed));
-        assert!(rt; written.as_slice() == first_replies(lines));
+        let out = room_for(alloc, usize::MAX, true);
+        let answer = Err(ReplayFault::ReadFailed);
+        assert!(rt; is_replayed(alloc, reader, out, answer, first_replies(lines)));
+        if script.get(place) == Some(&b'\n') {
+            lines = lines.saturating_add(1);
+        }
     }
 }
 
 // Each write fails in turn, or writes 0 bytes: a beginning of the replies.
 fn expect_failed_writes(rt: &impl Abort, alloc: Global, fails: bool) {
     for room in 0..REPLIES.len() {
+        let reader = in_pieces(SCRIPT.as_bytes(), 10);
         let out = room_for(alloc, room, fails);
-        let (written, answer) = replayed_into(alloc, in_pieces(SCRIPT.as_bytes(), 10), out);
-        assert!(rt; answer == Err(ReplayFault::WriteFailed));
-        assert!(rt; written.as_slice() == &REPLIES.as_bytes()[..room]);
+        let answer = Err(ReplayFault::WriteFailed);
+        assert!(rt; is_replayed(alloc, reader, out, answer, &REPLIES.as_bytes()[..room]));
     }
 }
 

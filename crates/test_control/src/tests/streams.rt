@@ -136,8 +136,7 @@ fn writes_that_fail(rt: HostRuntime) {
     for answer in &WRITES {
         assert!(rt; output.write(b"abcd") == *answer);
     }
-    let _ = output.into_inner();
-    assert!(rt; writer.bytes.as_slice() == b"aababcd".as_slice());
+    assert!(rt; output.into_inner().bytes.as_slice() == b"aababcd".as_slice());
 }
 
 const FIRST_END: [Step; 3] = [
@@ -235,17 +234,22 @@ fn is_too_long(rt: &impl Abort, alloc: Global, text: &[u8], is_wanted: bool) -> 
     }
 }
 
+// A line of this many bytes whose digits are all 8.
+fn line_of(rt: &impl Abort, alloc: Global, len: usize) -> Vec<u8> {
+    let mut text = Vec::from_slice(alloc, b"packet ").expect(rt, "memory");
+    text.resize(len, b'8').expect(rt, "memory");
+    text
+}
+
 #[test]
 fn packets_of_lines(rt: HostRuntime) {
     for (text, packet) in &PACKETS {
         assert!(rt; is_read_as(&rt, rt.alloc(), text, packet));
     }
-    let mut text = Vec::from_slice(rt.alloc(), b"packet ").expect(&rt, "memory");
-    text.resize(131_077, b'8').expect(&rt, "memory");
     let packet = vec![in rt.alloc(); 0x88u8; 65_535].expect(&rt, "memory");
-    assert!(rt; is_read_as(&rt, rt.alloc(), &text, &packet));
+    assert!(rt; is_read_as(&rt, rt.alloc(), &line_of(&rt, rt.alloc(), 131_077), &packet));
     for (len, is_wanted) in &TOO_LONG {
-        text.resize(*len, b'8').expect(&rt, "memory");
+        let text = line_of(&rt, rt.alloc(), *len);
         assert!(rt; is_too_long(&rt, rt.alloc(), &text, *is_wanted));
     }
 }
