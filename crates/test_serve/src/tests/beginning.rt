@@ -4,7 +4,7 @@ ghost use Rattle.std.specs.Prelude.{◌≤◌, IfSome};
 ghost use Rattle.member_group.specs.Charge.{charge_of};
 ghost use Rattle.versions.specs.declared.layout.TheConstants.{CHARGE_LIMIT};
 
-use super::client::{Case, Client, PACKET, Ports, at, new_client, new_output};
+use super::client::{Case, PACKET, ask_beside, at, new_output};
 use command_line::Failure;
 use dispatch::OpenGate;
 use ipv4_fields::Endpoint;
@@ -16,7 +16,6 @@ use std::io::Write;
 use std::net::Net;
 use std::sync::Wait;
 use std::thread::Threads;
-use std::{io, thread};
 
 // 10.0.0.2:53, without members.
 fn one_group(alloc: Global) -> Option<Config>
@@ -34,14 +33,15 @@ fn one_group(alloc: Global) -> Option<Config>
     Some(config)
 }
 
-// `None` if memory was refused.
 fn serve_one_group<R: Threads + Wait + Net + Sync, W: Write>(
     rt: &R,
     alloc: Global,
     out: &mut W,
-) -> Option<Result<(), Failure>> {
-    let config = one_group(alloc)?;
-    Some(serve_with(rt, config, at(0), at(0), 1, &OpenGate, out))
+) -> Result<(), Failure> {
+    match one_group(alloc) {
+        Some(config) => serve_with(rt, config, at(0), at(0), 1, &OpenGate, out),
+        None => Err(Failure::OutOfMemory),
+    }
 }
 
 const SHOW: [Case; 2] = [
@@ -60,27 +60,18 @@ const CHANGE: [Case; 2] = [
     (b"stop", b"ok stop"),
 ];
 
-// The first wrong reply before a packet, whether the packet was judged by the group, and the first wrong reply after it.
-fn found_by(client: &Client) -> io::Result<(Option<usize>, bool, Option<usize>)> {
-    let shown = client.first_wrong(&SHOW)?;
-    client.socket.send_to(&PACKET, client.front)?;
-    let judged = client.comes_to(JUDGED)?;
-    Ok((shown, judged, client.first_wrong(&CHANGE)?))
-}
-
-fn find<N: Net>(net: &N, ports: &Ports) -> io::Result<(Option<usize>, bool, Option<usize>)> {
-    let client = new_client(net, ports)?;
-    found_by(&client)
-}
-
 #[test]
 fn serve_begins_with_a_configuration(rt: HostRuntime) {
     let (mut out, ports) = new_output(&rt, rt.alloc());
-    let (served, found) = thread::join(
+    ask_beside(
         &rt,
+        &ports,
         || serve_one_group(&rt, rt.alloc(), &mut out),
-        || find(&rt, &ports),
+        |client| {
+            client.expect_each(&rt, &SHOW);
+            client.send(&rt, &PACKET);
+            client.expect_totals(&rt, JUDGED);
+            client.expect_each(&rt, &CHANGE);
+        },
     );
-    assert!(rt; served == Some(Ok(())), "{served:?}");
-    assert_eq!(rt; found.expect(&rt, "a client"), (None, true, None));
 }

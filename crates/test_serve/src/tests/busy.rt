@@ -1,16 +1,16 @@
 //! The switch while it has much to do: its front is flooded, or datagrams wait for a worker when it is asked to stop.
 
 use super::client::{
-    Case, Client, PACKET, Ports, TURNS, at, local, new_client, new_output, serve_by,
+    Case, Client, PACKET, Ports, TURNS, ask_beside, at, local, new_output, serve_by,
 };
 use command_line::{ReceiveWay, Workers};
 use dispatch::Gate;
 use serve_udp::serve;
-use std::net::{Net, UdpSocket};
+use std::net::UdpSocket;
 use std::process::Abort;
 use std::sync::Arc;
 use std::sync::atomic::{AtomicU64, Ordering};
-use std::{io, thread};
+use std::thread;
 
 // The number of datagrams that a batch adds to the flood: more than it judges at most.
 const ADDED: u32 = 128;
@@ -44,15 +44,14 @@ const SHOW: Case = (b"show", b"version 0 groups 0 members 0 charge 2");
 const STOP: Case = (b"stop", b"ok stop");
 
 // Begins the flood, and waits until it is under way.
-fn begin(client: &Client, flood: &Flood) -> io::Result<()> {
-    client.socket.send_to(&PACKET[..27], client.front)?;
+fn begin(rt: &impl Abort, client: &Client, flood: &Flood) {
+    client.send(rt, &PACKET[..27]);
     for _ in 0..TURNS {
         if flood.batches.load(Ordering::SeqCst) >= 100 {
             break;
         }
         thread::yield_now();
     }
-    Ok(())
 }
 
 // The number of times that `show` is answered, of 20.
@@ -66,23 +65,20 @@ fn times_answered(client: &Client) -> u32 {
     answered
 }
 
-// The number of times that `show` was answered while the flood lasts, and whether `stop` was then.
-fn ask_beside<N: Net>(net: &N, ports: &Ports, flood: &Flood) -> io::Result<(u32, bool)> {
-    let client = new_client(net, ports)?;
-    answers_beside(&client, flood)
-}
-
-fn answers_beside(client: &Client, flood: &Flood) -> io::Result<(u32, bool)> {
-    begin(client, flood)?;
+// `show` is answered each time while the flood lasts, and `stop` after it.
+fn expect_beside(rt: &impl Abort, client: &Client, flood: &Flood) {
+    begin(rt, client, flood);
     let answered = times_answered(client);
     flood.ended.store(1, Ordering::SeqCst);
-    let stopped = client.is_answered(STOP.0, STOP.1)?;
-    Ok((answered, stopped))
+    client.expect(rt, STOP.0, STOP.1);
+    assert!(rt; answered == 20, "{answered}");
 }
+
+const WAYS: [ReceiveWay; 2] = [ReceiveWay::Queued, ReceiveWay::Direct];
 
 #[test]
 fn control_is_answered_beside_a_flood(rt: HostRuntime) {
-    for way in [ReceiveWay::Queued, ReceiveWay::Direct] {
+    for way in &WAYS {
         let (mut out, ports) = new_output(&rt, rt.alloc());
         let flood = Flood {
             socket: UdpSocket::bind(&rt, local(0)).expect(&rt, "a socket"),
@@ -90,13 +86,19 @@ fn control_is_answered_beside_a_flood(rt: HostRuntime) {
             batches: AtomicU64::new(0),
             ended: AtomicU64::new(0),
         };
-        let (served, asked) = thread::join(
+        ask_beside(
             &rt,
-            || serve_by(&rt, rt.alloc(), way, Workers { count: 2 }, &flood, &mut out),
-            || ask_beside(&rt, &ports, &flood),
+            &ports,
+            || serve_by(
+                &rt,
+                rt.alloc(),
+                *way,
+                Workers { count: 2 },
+                &flood,
+                &mut out,
+            ),
+            |client| expect_beside(&rt, client, &flood),
         );
-        assert!(rt; served == Ok(()), "{way:?}: {served:?}");
-        assert_eq!(rt; asked.expect(&rt, "a client"), (20, true));
         assert!(rt; flood.batches.load(Ordering::SeqCst) >= 100);
     }
 }
@@ -132,18 +134,12 @@ const QUEUED: &[u8] =
 
 // Fills the queue, and lets its worker go once `stop` is answered. Of eight answers the last come in a later turn than the first, so all
 // is received by then.
-fn first_wrong_of_queued(client: &Client, held: &Held) -> io::Result<Option<usize>> {
+fn queue_and_stop(rt: &impl Abort, client: &Client, held: &Held) {
     for _ in 0..40u32 {
-        client.socket.send_to(&PACKET[..27], client.front)?;
+        client.send(rt, &PACKET[..27]);
     }
-    let wrong = client.first_wrong(&EIGHT_AND_STOP)?;
+    client.expect_each(rt, &EIGHT_AND_STOP);
     held.let_go.store(1, Ordering::SeqCst);
-    Ok(wrong)
-}
-
-fn queue_and_stop<N: Net>(net: &N, ports: &Ports, held: &Held) -> io::Result<Option<usize>> {
-    let client = new_client(net, ports)?;
-    first_wrong_of_queued(&client, held)
 }
 
 // The ready line, and then that of the totals.
@@ -151,7 +147,7 @@ fn is_written(rt: &impl Abort, bytes: &[u8]) {
     let mut lines = bytes.split(|byte| *byte == b'\n');
     let ready = lines.next().expect(rt, "a line");
     assert!(rt; ready.starts_with(b"ready "));
-    assert_eq!(rt; lines.next(), Some(QUEUED));
+    assert!(rt; lines.next() == Some(QUEUED));
     assert!(rt; lines.next() == Some(b"".as_slice()));
     assert!(rt; lines.next() == None);
 }
@@ -163,13 +159,12 @@ fn queued_datagrams_are_judged_after_stop(rt: HostRuntime) {
         failures: AtomicU64::new(0),
     };
     let (mut out, ports) = new_output(&rt, rt.alloc());
-    let (served, wrong) = thread::join(
+    ask_beside(
         &rt,
+        &ports,
         || serve(&rt, rt.alloc(), at(0), at(0), 1, &held, &mut out),
-        || queue_and_stop(&rt, &ports, &held),
+        |client| queue_and_stop(&rt, client, &held),
     );
-    assert!(rt; served == Ok(()), "{served:?}");
-    assert_eq!(rt; wrong.expect(&rt, "a client"), None);
     assert!(rt; held.failures.load(Ordering::SeqCst) == 0);
     is_written(&rt, &out.bytes);
 }

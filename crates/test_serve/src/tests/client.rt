@@ -73,7 +73,7 @@ fn port_of(word: Option<&str>) -> Option<u16> {
     Some(address.port())
 }
 
-pub fn ports_in(line: &[u8]) -> Option<u64> {
+fn ports_in(line: &[u8]) -> Option<u64> {
     let mut words = str::from_utf8(line).ok()?.split_whitespace();
     if words.next() != Some("ready") {
         return None;
@@ -112,7 +112,7 @@ pub fn local(port: u64) -> SocketAddr {
     SocketAddr::V4(SocketAddrV4::new(Ipv4Addr::from(LOOPBACK), u16::from_be_bytes([high, low])))
 }
 
-pub fn new_client<N: Net>(net: &N, ports: &Ports) -> io::Result<Client> {
+fn new_client<N: Net>(net: &N, ports: &Ports) -> io::Result<Client> {
     for _ in 0..TURNS {
         let both = ports.load(Ordering::SeqCst);
         if both != 0 {
@@ -129,10 +129,38 @@ pub fn new_client<N: Net>(net: &N, ports: &Ports) -> io::Result<Client> {
     Err(io::Error::from(ErrorKind::TimedOut))
 }
 
+/// Serves, and asks the switch beside that.
+pub fn ask_beside<
+    R: Threads + Wait + Net + Sync + Abort,
+    S: FnOnce() -> Result<(), Failure> + Send,
+    A: FnOnce(&Client),
+>(rt: &R, ports: &Ports, serve: S, ask: A)
+    requires serves { S.IsAlwaysCallable serve }
+    requires asks { A.IsAlwaysCallable ask }
+{
+    let (served, asked) = thread::join(
+        rt,
+        serve,
+        move || -> io::Result<()>
+            requires { A.IsAlwaysCallable ask }
+        {
+            let client = new_client(rt, ports)?;
+            ask(&client);
+            Ok(())
+        },
+    );
+    assert!(rt; served == Ok(()), "{served:?}");
+    asked.expect(rt, "a client");
+}
+
 /// A line, and its reply.
 pub type Case = (&'static [u8], &'static [u8]);
 
 impl Client {
+    pub fn send(&self, rt: &impl Abort, datagram: &[u8]) {
+        assert!(rt; self.socket.send_to(datagram, self.front).is_ok());
+    }
+
     pub fn is_answered(&self, line: &[u8], reply: &[u8]) -> io::Result<bool> {
         let mut buf = [0u8; 512];
         self.socket.send_to(line, self.control)?;
@@ -140,30 +168,31 @@ impl Client {
         Ok(&buf[..size] == reply)
     }
 
-    /// Whether this text gets no reply: the next reply is that to the case after it.
-    pub fn is_ignored(&self, text: &[u8], after: &Case) -> io::Result<bool> {
-        self.socket.send_to(text, self.control)?;
-        self.is_answered(after.0, after.1)
+    pub fn expect(&self, rt: &impl Abort, line: &[u8], reply: &[u8]) {
+        let answered = self.is_answered(line, reply).expect(rt, "a reply");
+        assert!(rt; answered, "{line:?}");
     }
 
-    /// The first case whose reply is another, if there is one.
-    pub fn first_wrong(&self, cases: &[Case]) -> io::Result<Option<usize>> {
-        for (place, (line, reply)) in cases.iter().enumerate() {
-            if !self.is_answered(line, reply)? {
-                return Ok(Some(place));
-            }
+    pub fn expect_each(&self, rt: &impl Abort, cases: &[Case]) {
+        for (line, reply) in cases {
+            self.expect(rt, line, reply);
         }
-        Ok(None)
+    }
+
+    /// This text gets no reply: the next reply is that to the case after it.
+    pub fn expect_ignored(&self, rt: &impl Abort, text: &[u8], after: &Case) {
+        assert!(rt; self.socket.send_to(text, self.control).is_ok());
+        self.expect(rt, after.0, after.1);
     }
 
     /// Asks for the totals until they are these.
-    pub fn comes_to(&self, totals: &[u8]) -> io::Result<bool> {
+    pub fn expect_totals(&self, rt: &impl Abort, totals: &[u8]) {
         for _ in 0..10_000u32 {
-            if self.is_answered(b"totals".as_slice(), totals)? {
-                return Ok(true);
+            if self.is_answered(b"totals", totals).expect(rt, "a reply") {
+                return;
             }
             thread::yield_now();
         }
-        Ok(false)
+        panic!(rt; "other totals");
     }
 }

@@ -1,6 +1,6 @@
 //! The switch over the loopback: datagrams to two workers, control lines meanwhile, and its end.
 
-use super::client::{Case, Client, PACKET, Ports, TURNS, at, new_client, new_output, serve_by};
+use super::client::{Case, Client, Output, PACKET, TURNS, ask_beside, at, new_output, serve_by};
 use command_line::{Failure, ReceiveWay, Workers};
 use dispatch::{Gate, OpenGate};
 use serve_udp::{serve, serve_direct};
@@ -8,8 +8,8 @@ use std::alloc::Global;
 use std::net::{Net, SocketAddr, UdpSocket};
 use std::process::Abort;
 use std::sync::atomic::{AtomicU64, Ordering};
+use std::thread;
 use std::time::Duration;
-use std::{io, thread};
 
 // Two first batches and a client that wait for each other, each for `TURNS` turns at most.
 #[derive(Drop)]
@@ -56,112 +56,89 @@ const STOP: [Case; 1] = [(b"stop", b"ok stop")];
 const ALL: &[u8] =
     b"malformed 1 nogroup 1 nomembers 0 dropped 0 delivered 2 sendfailed 0 receivefailed 0";
 
-// The results of the client of `serve_over_loopback`.
-#[derive(Clone, Copy, Debug, PartialEq, Eq)]
-struct Found {
-    wrong_rule: Option<usize>,
-    // For each datagram that a member got, whether it is the packet; and whether they came from two ports.
-    packets: (bool, bool),
-    two_ports: bool,
-    all_counted: bool,
-    wrong_stop: Option<usize>,
-}
-
-fn receive(member: &UdpSocket) -> io::Result<(bool, SocketAddr)> {
+// A member gets the packet whole; returns where it comes from.
+fn receive(rt: &impl Abort, member: &UdpSocket) -> SocketAddr {
     let mut buf = [0u8; 64];
-    let (size, from) = member.recv_from(&mut buf)?;
-    Ok((&buf[..size] == PACKET.as_slice(), from))
+    let (size, from) = member.recv_from(&mut buf).expect(rt, "a datagram");
+    assert!(rt; &buf[..size] == PACKET.as_slice());
+    from
 }
 
-fn found_by(client: &Client, member: &UdpSocket, gate: &Meeting) -> io::Result<Found> {
-    let wrong_rule = client.first_wrong(&RULES)?;
+// The packets come to the member from two ports, or from one.
+fn expect_judged(
+    rt: &impl Abort,
+    client: &Client,
+    member: &UdpSocket,
+    gate: &Meeting,
+    two_ports: bool,
+) {
+    client.expect_each(rt, &RULES);
     gate.come(100);
     let mut other_port = PACKET;
     other_port[23] = 54;
-    client.socket.send_to(&PACKET[..27], client.front)?;
-    client.socket.send_to(&other_port, client.front)?;
-    client.socket.send_to(&PACKET, client.front)?;
-    client.socket.send_to(&PACKET, client.front)?;
-    let (first, one) = receive(member)?;
-    let (second, other) = receive(member)?;
+    client.send(rt, &PACKET[..27]);
+    client.send(rt, &other_port);
+    client.send(rt, &PACKET);
+    client.send(rt, &PACKET);
+    let one = receive(rt, member);
+    let other = receive(rt, member);
+    assert!(rt; (one != other) == two_ports);
     // A verdict is counted before its packet is sent.
-    let all_counted = client.is_answered(b"totals".as_slice(), ALL)?;
-    let wrong_stop = client.first_wrong(&STOP)?;
-    Ok(Found {
-        wrong_rule,
-        packets: (first, second),
-        two_ports: one != other,
-        all_counted,
-        wrong_stop,
-    })
+    client.expect(rt, b"totals", ALL);
+    client.expect_each(rt, &STOP);
 }
-
-const WANTED: Found = Found {
-    wrong_rule: None,
-    packets: (true, true),
-    two_ports: true,
-    all_counted: true,
-    wrong_stop: None,
-};
-
-// One sender's datagrams all go to one worker.
-const WANTED_DIRECT: Found = Found {
-    two_ports: false,
-    ..WANTED
-};
 
 const WRITTEN: &str = "ready 127.0.0.1:47001 127.0.0.1:47002\n\
     malformed 1 nogroup 1 nomembers 0 dropped 0 delivered 2 sendfailed 0 receivefailed 0\n";
 
-fn find<N: Net>(net: &N, ports: &Ports, member: &UdpSocket, gate: &Meeting) -> io::Result<Found> {
-    let client = new_client(net, ports)?;
-    found_by(&client, member, gate)
+// A socket of a member, whose receives wait for 5 seconds at most.
+fn new_member<R: Net + Abort>(rt: &R, address: &str) -> UdpSocket {
+    let member = UdpSocket::bind(rt, address).expect(rt, "a member");
+    let wait = Some(Duration::from_secs(5));
+    member.set_read_timeout(wait).expect(rt, "a time limit");
+    member
 }
 
-// A socket of a member, whose receives wait for 5 seconds at most.
-fn new_member<N: Net>(net: &N, address: &str) -> io::Result<UdpSocket> {
-    let member = UdpSocket::bind(net, address)?;
-    member.set_read_timeout(Some(Duration::from_secs(5)))?;
-    Ok(member)
+fn new_meeting() -> Meeting {
+    Meeting {
+        came: AtomicU64::new(0),
+        failures: AtomicU64::new(0),
+    }
+}
+
+fn expect_met(rt: &impl Abort, out: &Output, gate: &Meeting) {
+    assert!(rt; str::from_utf8(&out.bytes) == Ok(WRITTEN));
+    assert!(rt; gate.failures.load(Ordering::SeqCst) == 0);
 }
 
 // Both workers and the client wait for each other, so all run at once.
 #[test]
 fn serve_over_loopback(rt: HostRuntime) {
-    let member = new_member(&rt, "127.0.0.1:9003").expect(&rt, "a member");
-    let gate = Meeting {
-        came: AtomicU64::new(0),
-        failures: AtomicU64::new(0),
-    };
+    let member = new_member(&rt, "127.0.0.1:9003");
+    let gate = new_meeting();
     let (mut out, ports) = new_output(&rt, rt.alloc());
-    let (served, found) = thread::join(
+    ask_beside(
         &rt,
+        &ports,
         || serve(&rt, rt.alloc(), at(47001), at(47002), 2, &gate, &mut out),
-        || find(&rt, &ports, &member, &gate),
+        |client| expect_judged(&rt, client, &member, &gate, true),
     );
-    assert!(rt; served == Ok(()), "{served:?}");
-    assert_eq!(rt; found.expect(&rt, "a client"), WANTED);
-    assert_eq!(rt; str::from_utf8(&out.bytes), Ok(WRITTEN));
-    assert!(rt; gate.failures.load(Ordering::SeqCst) == 0);
+    expect_met(&rt, &out, &gate);
 }
 
+// One sender's datagrams all go to one worker.
 #[test]
 fn serve_direct_over_loopback(rt: HostRuntime) {
-    let member = new_member(&rt, "127.0.0.1:9003").expect(&rt, "a member");
-    let gate = Meeting {
-        came: AtomicU64::new(0),
-        failures: AtomicU64::new(0),
-    };
+    let member = new_member(&rt, "127.0.0.1:9003");
+    let gate = new_meeting();
     let (mut out, ports) = new_output(&rt, rt.alloc());
-    let (served, found) = thread::join(
+    ask_beside(
         &rt,
+        &ports,
         || serve_direct(&rt, rt.alloc(), at(47001), at(47002), 2, &gate, &mut out),
-        || find(&rt, &ports, &member, &gate),
+        |client| expect_judged(&rt, client, &member, &gate, false),
     );
-    assert!(rt; served == Ok(()), "{served:?}");
-    assert_eq!(rt; found.expect(&rt, "a client"), WANTED_DIRECT);
-    assert_eq!(rt; str::from_utf8(&out.bytes), Ok(WRITTEN));
-    assert!(rt; gate.failures.load(Ordering::SeqCst) == 0);
+    expect_met(&rt, &out, &gate);
 }
 
 #[test]
@@ -169,9 +146,9 @@ fn serve_on_one_address(rt: HostRuntime) {
     let (place, gate) = (at(47003), &OpenGate);
     let mut out = Vec::new(rt.alloc());
     let served = serve(&rt, rt.alloc(), place, place, 1, gate, &mut out);
-    assert_eq!(rt; served, Err(Failure::BindFailed));
+    assert!(rt; served == Err(Failure::BindFailed));
     let served = serve_direct(&rt, rt.alloc(), place, place, 4, gate, &mut out);
-    assert_eq!(rt; served, Err(Failure::BindFailed));
+    assert!(rt; served == Err(Failure::BindFailed));
     assert!(rt; out.is_empty());
 }
 
@@ -189,65 +166,51 @@ const REPLIES: [&[u8]; 8] = [
 
 const SHOW: Case = (b"show", b"version 0 groups 0 members 0 charge 2");
 
-// The first reply that is answered, if there is one.
-fn first_answered(client: &Client) -> io::Result<Option<usize>> {
-    for (place, reply) in REPLIES.iter().enumerate() {
-        if !client.is_ignored(reply, &SHOW)? {
-            return Ok(Some(place));
-        }
+// After the replies, `ok` alone and then `stop` are answered.
+const ALONE_AND_STOP: [Case; 2] = [(b"ok", b"refused C1"), (b"stop", b"ok stop")];
+
+fn expect_unanswered(rt: &impl Abort, client: &Client) {
+    for reply in &REPLIES {
+        client.expect_ignored(rt, reply, &SHOW);
     }
-    Ok(None)
+    client.expect_each(rt, &ALONE_AND_STOP);
 }
 
-// The first answered reply, and whether `ok` alone and then `stop` are answered.
-fn answered_of(client: &Client) -> io::Result<(Option<usize>, bool, bool)> {
-    let replied = first_answered(client)?;
-    let alone = client.is_answered(b"ok", b"refused C1")?;
-    let stopped = client.is_answered(b"stop", b"ok stop")?;
-    Ok((replied, alone, stopped))
-}
-
-fn answered<N: Net>(net: &N, ports: &Ports) -> io::Result<(Option<usize>, bool, bool)> {
-    let client = new_client(net, ports)?;
-    answered_of(&client)
-}
+const WAYS: [ReceiveWay; 2] = [ReceiveWay::Queued, ReceiveWay::Direct];
 
 #[test]
 fn replies_are_not_answered(rt: HostRuntime) {
-    for way in [ReceiveWay::Queued, ReceiveWay::Direct] {
+    for way in &WAYS {
         let (mut out, ports) = new_output(&rt, rt.alloc());
-        let (served, found) = thread::join(
+        ask_beside(
             &rt,
+            &ports,
             || serve_by(
                 &rt,
                 rt.alloc(),
-                way,
+                *way,
                 Workers { count: 1 },
                 &OpenGate,
                 &mut out,
             ),
-            || answered(&rt, &ports),
+            |client| expect_unanswered(&rt, client),
         );
-        assert!(rt; served == Ok(()), "{way:?}: {served:?}");
-        assert_eq!(rt; found.expect(&rt, "a client"), (None, true, true));
     }
 }
 
 // A group whose first member gets the packets, until its selector picks the second, which has no port.
-fn rules(rt: &impl Abort, alloc: Global, client: &Client, member: &UdpSocket) -> io::Result<bool> {
-    let port = member.local_addr()?.port();
+fn expect_rules(rt: &impl Abort, alloc: Global, client: &Client, member: &UdpSocket) {
+    let port = member.local_addr().expect(rt, "an address").port();
     let first = format!(in alloc; "join 10.0.0.2:53 1 127.0.0.1:{port}").expect(rt, "memory");
-    are_ruled(client, first.as_bytes())
+    client.expect(rt, b"add 10.0.0.2:53", b"ok version 1");
+    client.expect(rt, first.as_bytes(), b"ok version 2");
+    client.expect_each(rt, &REST_OF_RULES);
 }
 
-fn are_ruled(client: &Client, first: &[u8]) -> io::Result<bool> {
-    Ok(
-        client.is_answered(b"add 10.0.0.2:53", b"ok version 1")?
-            && client.is_answered(first, b"ok version 2")?
-            && client.is_answered(b"join 10.0.0.2:53 2 127.0.0.1:0", b"ok version 3")?
-            && client.is_answered(b"selector 10.0.0.2:53 asm ret #0", b"ok version 4")?,
-    )
-}
+const REST_OF_RULES: [Case; 2] = [
+    (b"join 10.0.0.2:53 2 127.0.0.1:0", b"ok version 3"),
+    (b"selector 10.0.0.2:53 asm ret #0", b"ok version 4"),
+];
 
 // The longest packet that a datagram carries, with an IPv4 header of 20 bytes, and a UDP header.
 fn longest_packet(rt: &impl Abort, alloc: Global) -> Vec<u8> {
@@ -265,122 +228,86 @@ fn longest_packet(rt: &impl Abort, alloc: Global) -> Vec<u8> {
     packet
 }
 
-// The longest datagrams' contents, and a buffer that has room for each.
-#[derive(Drop)]
-struct Longest {
-    packet: Vec<u8>,
-    no_line: Vec<u8>,
-    buf: Vec<u8>,
-}
+const EMPTY_COUNTED: &[u8] =
+    b"malformed 1 nogroup 0 nomembers 0 dropped 0 delivered 0 sendfailed 0 receivefailed 0";
 
-fn new_longest(rt: &impl Abort, alloc: Global) -> Longest {
-    Longest {
-        packet: longest_packet(rt, alloc),
-        no_line: vec![in alloc; b'z'; 65_507].expect(rt, "memory"),
-        buf: vec![in alloc; 0u8; 65_535].expect(rt, "memory"),
-    }
-}
+const SEND_COUNTED: &[u8] =
+    b"malformed 1 nogroup 0 nomembers 0 dropped 0 delivered 2 sendfailed 1 receivefailed 0";
 
-fn is_counted(client: &Client, datagram: &[u8], totals: &[u8]) -> io::Result<bool> {
-    client.socket.send_to(datagram, client.front)?;
-    client.comes_to(totals)
-}
-
-fn comes_whole(
+// The member gets this packet whole.
+fn expect_whole(
+    rt: &impl Abort,
     client: &Client,
     member: &UdpSocket,
     packet: &[u8],
     buf: &mut [u8],
-) -> io::Result<bool> {
-    client.socket.send_to(packet, client.front)?;
-    let size = member.recv(buf)?;
-    Ok(&buf[..size] == packet)
+) {
+    client.send(rt, packet);
+    let size = member.recv(buf).expect(rt, "a datagram");
+    assert!(rt; &buf[..size] == packet);
 }
 
-fn unusual_of(
+// An empty datagram, the longest packet, one that cannot be sent, and the longest control datagram.
+fn expect_unusual(
     rt: &impl Abort,
     alloc: Global,
     client: &Client,
     member: &UdpSocket,
-    longest: &mut Longest,
-) -> io::Result<[bool; 7]> {
-    let ruled = rules(rt, alloc, client, member)?;
-    let empty = is_counted(
-        client,
-        b"",
-        b"malformed 1 nogroup 0 nomembers 0 dropped 0 delivered 0 sendfailed 0 receivefailed 0",
-    )?;
-    let whole = comes_whole(client, member, &longest.packet, &mut longest.buf)?;
-    let selected = client.is_answered(b"selector 10.0.0.2:53 asm ret #1", b"ok version 5")?;
-    let failed_send = is_counted(
-        client,
-        &PACKET,
-        b"malformed 1 nogroup 0 nomembers 0 dropped 0 delivered 2 sendfailed 1 receivefailed 0",
-    )?;
-    let refused = client.is_answered(&longest.no_line, b"refused C1")?;
-    let stopped = client.is_answered(b"stop", b"ok stop")?;
-    Ok([ruled, empty, whole, selected, failed_send, refused, stopped])
-}
-
-fn unusual<R: Abort + Net>(
-    rt: &R,
-    alloc: Global,
-    ports: &Ports,
-    member: &UdpSocket,
-    longest: &mut Longest,
-) -> io::Result<[bool; 7]> {
-    let client = new_client(rt, ports)?;
-    unusual_of(rt, alloc, &client, member, longest)
+    packet: &[u8],
+) {
+    expect_rules(rt, alloc, client, member);
+    client.send(rt, b"");
+    client.expect_totals(rt, EMPTY_COUNTED);
+    let mut buf = vec![in alloc; 0u8; 65_535].expect(rt, "memory");
+    expect_whole(rt, client, member, packet, &mut buf);
+    client.expect(rt, b"selector 10.0.0.2:53 asm ret #1", b"ok version 5");
+    client.send(rt, &PACKET);
+    client.expect_totals(rt, SEND_COUNTED);
+    let no_line = vec![in alloc; b'z'; 65_507].expect(rt, "memory");
+    client.expect(rt, &no_line, b"refused C1");
+    client.expect_each(rt, &STOP);
 }
 
 // Sixty-four workers.
 #[test]
 fn unusual_datagrams(rt: HostRuntime) {
-    let member = new_member(&rt, "127.0.0.1:0").expect(&rt, "a member");
-    let mut longest = new_longest(&rt, rt.alloc());
-    for way in [ReceiveWay::Queued, ReceiveWay::Direct] {
+    let member = new_member(&rt, "127.0.0.1:0");
+    let packet = longest_packet(&rt, rt.alloc());
+    for way in &WAYS {
         let (mut out, ports) = new_output(&rt, rt.alloc());
-        let (served, found) = thread::join(
+        ask_beside(
             &rt,
+            &ports,
             || serve_by(
                 &rt,
                 rt.alloc(),
-                way,
+                *way,
                 Workers { count: 64 },
                 &OpenGate,
                 &mut out,
             ),
-            || unusual(&rt, rt.alloc(), &ports, &member, &mut longest),
+            |client| expect_unusual(&rt, rt.alloc(), client, &member, &packet),
         );
-        assert!(rt; served == Ok(()), "{way:?}: {served:?}");
-        assert_eq!(rt; found.expect(&rt, "a client"), [true; 7]);
     }
 }
 
-// Asks a switch to stop that no datagram came to.
-fn stopped_at_once<N: Net>(net: &N, ports: &Ports) -> io::Result<Option<usize>> {
-    let client = new_client(net, ports)?;
-    client.first_wrong(&STOP)
-}
-
-// All workers wait in a receive when it is asked to stop.
+// All workers wait in a receive when it is asked to stop, since no datagram came.
 #[test]
 fn workers_that_wait_end(rt: HostRuntime) {
-    for way in [ReceiveWay::Queued, ReceiveWay::Direct] {
+    for way in &WAYS {
         let (mut out, ports) = new_output(&rt, rt.alloc());
-        let (served, wrong) = thread::join(
+        ask_beside(
             &rt,
+            &ports,
             || serve_by(
                 &rt,
                 rt.alloc(),
-                way,
+                *way,
                 Workers { count: 64 },
                 &OpenGate,
                 &mut out,
             ),
-            || stopped_at_once(&rt, &ports),
+            |client| client.expect_each(&rt, &STOP),
         );
-        assert!(rt; served == Ok(()), "{way:?}: {served:?}");
-        assert_eq!(rt; wrong.expect(&rt, "a client"), None);
     }
 }
