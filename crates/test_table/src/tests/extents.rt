@@ -2,58 +2,38 @@
 
 ghost use Rattle.std.specs.Prelude.{◌≡◌};
 
-use super::numbered::applied;
-use super::tables::on_table;
+use super::numbered::{applied, key_of, selected};
+use super::tables::{has_pages, on_table, published};
 use bpf_insn::{ReadyWords, Words};
-use bpf_verify::Program;
-use ipv4_fields::Endpoint;
 use member_group::{Command, Config};
 use read_section::{Operator, Worker};
 use retire::Retire;
 use std::alloc::Global;
 use std::process::Abort;
-use std::test::Fail;
 
 // `ret #0`
 const RETURN: u64 = 0x0006_0000_0000_0000;
 
-fn key_of(group: u32) -> Endpoint {
-    Endpoint {
-        address: group,
-        port: 53,
-    }
-}
-
-// `ld #1`, `ld #2` and so on, and then `ret #0`: `count` instructions.
-fn loads(alloc: Global, count: usize) -> Result<Program<Global>, Fail> {
-    let mut words = vec![in alloc; 0; 0]?;
+// Gives a group a selector of `count` instructions: `ld #1`, `ld #2` and so on, and then `ret #0`.
+fn selecting(rt: &impl Abort, config: &Config, group: u32, count: usize) -> Config {
+    let mut words = Vec::new(*config.allocator());
     for k in 1..count {
-        words.push(k as u64)?;
+        words.push(k as u64).expect(rt, "memory");
     }
-    words.push(RETURN)?;
-    match Program::new(words) {
-        Ok(program) => Ok(program),
-        Err(_) => Err(Fail::from("loads and a return are a program")),
-    }
-}
-
-// Gives a group a selector of `count` instructions.
-fn selecting(alloc: Global, config: &Config, group: u32, count: usize) -> Result<Config, Fail> {
-    let program = loads(alloc, count)?;
-    let key = key_of(group);
-    applied(config, Command::SetSelector { key, program })
+    words.push(RETURN).expect(rt, "memory");
+    selected(rt, config, key_of(group), words)
 }
 
 // Groups 1, 2 and 3, with selectors of these numbers of instructions.
-fn three_groups(alloc: Global, counts: [usize; 3]) -> Result<Config, Fail> {
+fn three_groups(rt: &impl Abort, alloc: Global, counts: [usize; 3]) -> Config {
     let [first, second, third] = counts;
     let mut config = Config::new(alloc);
     for (group, count) in [(1u32, first), (2, second), (3, third)] {
         let key = key_of(group);
-        config = applied(&config, Command::AddGroup { key })?;
-        config = selecting(alloc, &config, group, count)?;
+        config = applied(rt, &config, Command::AddGroup { key });
+        config = selecting(rt, &config, group, count);
     }
-    Ok(config)
+    config
 }
 
 // The word of a program of loads at a place of the image, if the program has all places from the first to the last of
@@ -109,17 +89,11 @@ fn extents_are<W: Words>(rt: &impl Abort, words: &mut W, first: usize, lengths: 
     let last = end.wrapping_sub(1);
     let mut at = first;
     for length in lengths {
-        assert!(rt;
-            ready_count(words, first, last, at) == *length,
-            "from word {at}"
-        );
+        assert!(rt; ready_count(words, first, last, at) == *length);
         at = at.wrapping_add(*length);
     }
     for place in first..end {
-        assert!(rt;
-            word(words, place) == Some(load_at(first, last, place)),
-            "word {place}"
-        );
+        assert!(rt; word(words, place) == Some(load_at(first, last, place)));
     }
 }
 
@@ -132,15 +106,11 @@ fn reads_extents(rt: &impl Abort, worker: &mut Worker, first: usize, lengths: &[
     }
 }
 
-fn pages_are(operator: &Operator, wanted: &[u32]) -> bool {
-    operator.current_pages() == wanted
-}
-
 // The programs begin after 2 words and 4 for each group.
 const FIRST: usize = 14;
 
-fn are_one_extent(rt: &impl Abort, operator: &Operator, worker: &mut Worker) {
-    assert!(rt; pages_are(operator, &[0, 1, 2, 3, 4, 5, 6, 7, 8]));
+fn are_one_extent(rt: &impl Abort, operator: &mut Operator, worker: &mut Worker) {
+    has_pages(rt, operator, &[0, 1, 2, 3, 4, 5, 6, 7, 8]);
     reads_extents(rt, worker, FIRST, &[1]);
     reads_extents(rt, worker, FIRST + 1, &[100]);
     reads_extents(rt, worker, FIRST + 101, &[1]);
@@ -148,76 +118,59 @@ fn are_one_extent(rt: &impl Abort, operator: &Operator, worker: &mut Worker) {
 
 // Seven pages, one after the other: the extent ends with the program, though the next program's page follows.
 #[test]
-fn program_in_pages_one_behind_the_other(rt: HostRuntime) -> Result<(), Fail> {
-    on_table(three_groups(rt.alloc(), [1, 100, 1])?, |operator, worker| {
-        are_one_extent(&rt, operator, worker);
-        Ok(())
-    })
+fn program_in_pages_one_behind_the_other(rt: HostRuntime) {
+    let config = three_groups(&rt, rt.alloc(), [1, 100, 1]);
+    on_table(&rt, config, are_one_extent);
 }
 
 // Publishes another selector of group 2, of `count` instructions.
-fn selects(alloc: Global, operator: &mut Operator, count: usize) -> Result<bool, Fail> {
-    let next = selecting(alloc, operator.config(), 2, count)?;
-    Ok(operator.publish(next).is_ok())
+fn selects(rt: &impl Abort, operator: &mut Operator, count: usize) {
+    let next = selecting(rt, operator.config(), 2, count);
+    published(rt, operator, next);
 }
 
 // Page 1 is free, and pages 2 and 3 are not: the program's second part is in page 4.
-fn scatters(rt: &impl Abort, alloc: Global, operator: &mut Operator) -> Result<(), Fail> {
-    assert!(rt; selects(alloc, operator, 2)?);
-    assert!(rt; pages_are(operator, &[0, 3, 2]));
+fn are_two_extents(rt: &impl Abort, operator: &mut Operator, worker: &mut Worker) {
+    selects(rt, operator, 2);
+    has_pages(rt, operator, &[0, 3, 2]);
     assert!(rt; operator.sweep().count == 1);
-    assert!(rt; selects(alloc, operator, 100)?);
-    assert!(rt; pages_are(operator, &[0, 1, 4, 5, 6, 7, 8, 9, 2]));
-    Ok(())
-}
-
-fn are_two_extents(rt: &impl Abort, worker: &mut Worker) {
+    selects(rt, operator, 100);
+    has_pages(rt, operator, &[0, 1, 4, 5, 6, 7, 8, 9, 2]);
     reads_extents(rt, worker, FIRST, &[1]);
     reads_extents(rt, worker, FIRST + 1, &[16, 84]);
     reads_extents(rt, worker, FIRST + 101, &[1]);
 }
 
 #[test]
-fn program_in_pages_that_lie_apart(rt: HostRuntime) -> Result<(), Fail> {
-    on_table(three_groups(rt.alloc(), [1, 1, 1])?, |operator, worker| {
-        scatters(&rt, rt.alloc(), operator)?;
-        are_two_extents(&rt, worker);
-        Ok(())
-    })
+fn program_in_pages_that_lie_apart(rt: HostRuntime) {
+    let config = three_groups(&rt, rt.alloc(), [1, 1, 1]);
+    on_table(&rt, config, are_two_extents);
 }
 
-fn are_forgotten(
-    rt: &impl Abort,
-    alloc: Global,
-    operator: &mut Operator,
-    worker: &mut Worker,
-) -> Result<(), Fail> {
-    assert!(rt; pages_are(operator, &[0, 1, 2, 3, 4]));
+fn are_forgotten(rt: &impl Abort, operator: &mut Operator, worker: &mut Worker) {
+    has_pages(rt, operator, &[0, 1, 2, 3, 4]);
     reads_extents(rt, worker, FIRST + 1, &[40]);
-    assert!(rt; selects(alloc, operator, 30)?);
-    assert!(rt; pages_are(operator, &[0, 5, 6, 4]));
+    selects(rt, operator, 30);
+    has_pages(rt, operator, &[0, 5, 6, 4]);
     reads_extents(rt, worker, FIRST + 1, &[30]);
     reads_extents(rt, worker, FIRST + 31, &[1]);
-    Ok(())
 }
 
 // The cache of a version is not used for the next one, whose program is elsewhere.
 #[test]
-fn extents_of_the_version_before_are_forgotten(rt: HostRuntime) -> Result<(), Fail> {
-    on_table(three_groups(rt.alloc(), [1, 40, 1])?, |operator, worker| {
-        are_forgotten(&rt, rt.alloc(), operator, worker)
-    })
+fn extents_of_the_version_before_are_forgotten(rt: HostRuntime) {
+    let config = three_groups(&rt, rt.alloc(), [1, 40, 1]);
+    on_table(&rt, config, are_forgotten);
 }
 
 // Among 34 entries a search needs six reads, or five for some places. The reads that are left of eleven are made for
 // the parts after it.
+fn are_several_extents(rt: &impl Abort, _operator: &mut Operator, worker: &mut Worker) {
+    reads_extents(rt, worker, FIRST, &[96, 112, 112, 112, 68]);
+}
+
 #[test]
-fn long_program_has_several_extents(rt: HostRuntime) -> Result<(), Fail> {
-    on_table(
-        three_groups(rt.alloc(), [500, 1, 1])?,
-        |_operator, worker| {
-            reads_extents(&rt, worker, FIRST, &[96, 112, 112, 112, 68]);
-            Ok(())
-        },
-    )
+fn long_program_has_several_extents(rt: HostRuntime) {
+    let config = three_groups(&rt, rt.alloc(), [500, 1, 1]);
+    on_table(&rt, config, are_several_extents);
 }

@@ -1,6 +1,6 @@
 //! A slow reference for the tests: it computes the result of each step from all that was done before.
 
-use std::test::Fail;
+use std::process::Abort;
 use versions::Step::{self, Announce, Fetch, Fill, Leave, Peek, Pin, Publish, Scan};
 use versions::{PAGES, ROWS, TABLE_WORDS, WORKERS};
 
@@ -192,7 +192,7 @@ impl History {
         }
     }
 
-    pub fn make(&mut self, step: Step, word: u64) -> Result<(), Fail> {
+    pub fn make(&mut self, rt: &impl Abort, step: Step, word: u64) {
         let stored = match step {
             Announce { worker } | Leave { worker } => Some(worker.wrapping_add(1)),
             Fill { place, .. } => Some(place),
@@ -207,7 +207,6 @@ impl History {
         if let Publish { .. } = step {
             self.proposed = false;
         }
-        self.made.push((step, word))?;
-        Ok(())
+        self.made.push((step, word)).expect(rt, "memory");
     }
 }

@@ -1,11 +1,10 @@
 //! Pages of the pool, and words of rows, as an operator returns and fills them.
 
 use super::numbered::config_of;
-use super::sections::read_whole;
+use super::sections::reads;
 use super::tables::on_table;
-use read_section::{Operator, PAGE_WORDS, PAGES, ROW_WORDS};
+use read_section::{Operator, PAGE_WORDS, PAGES, ROW_WORDS, Worker};
 use std::process::Abort;
-use std::test::Fail;
 
 // Fills a place of a page; returns whether the page was free, and so may be filled.
 fn page_filled(operator: &mut Operator, page: usize, place: usize) -> bool {
@@ -26,21 +25,18 @@ const FREE_FROM: [(usize, Option<usize>); 6] = [
     (usize::MAX, None),
 ];
 
-fn each_is_free(rt: &impl Abort, operator: &mut Operator) {
+fn each_is_free(rt: &impl Abort, operator: &mut Operator, _worker: &mut Worker) {
     for (from, least) in &FREE_FROM {
-        assert!(rt; operator.free_page(*from) == *least, "from {from}");
+        assert!(rt; operator.free_page(*from) == *least);
         let is_page = *from < PAGES;
-        assert!(rt; page_filled(operator, *from, 0) == is_page, "page {from}");
-        assert!(rt; page_filled(operator, *from, 15) == is_page, "page {from}");
+        assert!(rt; page_filled(operator, *from, 0) == is_page);
+        assert!(rt; page_filled(operator, *from, 15) == is_page);
     }
 }
 
 #[test]
-fn each_page_is_free_at_first(rt: HostRuntime) -> Result<(), Fail> {
-    on_table(config_of(rt.alloc(), 0)?, |operator, _worker| {
-        each_is_free(&rt, operator);
-        Ok(())
-    })
+fn each_page_is_free_at_first(rt: HostRuntime) {
+    on_table(&rt, config_of(&rt, rt.alloc(), 0), each_is_free);
 }
 
 // Fills a place of a row; returns whether the row was free, and so may be filled.
@@ -62,22 +58,18 @@ const FILLS: [(usize, usize, u64, bool, u64); 6] = [
     (0, 8191, 9, false, 0),
 ];
 
-fn fills_are_told(rt: &impl Abort, operator: &mut Operator) {
+fn fills_are_told(rt: &impl Abort, operator: &mut Operator, worker: &mut Worker) {
     // The image's length, the place at which programs would begin, and no part.
     assert!(rt; operator.row_word(0, 0) == 0x0006_0006_0000 && operator.row_word(15, 0) == 0);
-    for fill in &FILLS {
-        let (row, place, word, may, after) = *fill;
-        assert!(rt; row_filled(operator, row, place, word) == may, "{fill:?}");
-        assert!(rt; operator.row_word(row, place) == after, "{fill:?}");
+    for (row, place, word, may, after) in &FILLS {
+        assert!(rt; row_filled(operator, *row, *place, *word) == *may);
+        assert!(rt; operator.row_word(*row, *place) == *after);
     }
+    // The current version is as it was.
+    reads(rt, worker, 0);
 }
 
 #[test]
-fn words_of_rows_are_told(rt: HostRuntime) -> Result<(), Fail> {
-    on_table(config_of(rt.alloc(), 0)?, |operator, worker| {
-        fills_are_told(&rt, operator);
-        // The current version is as it was.
-        assert!(&rt; read_whole(worker) == (0, 0));
-        Ok(())
-    })
+fn words_of_rows_are_told(rt: HostRuntime) {
+    on_table(&rt, config_of(&rt, rt.alloc(), 0), fills_are_told);
 }

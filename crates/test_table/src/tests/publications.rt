@@ -2,70 +2,68 @@
 
 ghost use Rattle.std.specs.Prelude.{◌<◌};
 
-use super::numbered::{applied, config_of, differing, is_config_of};
-use super::sections::read_whole;
-use super::tables::{on_table, on_workers};
+use super::numbered::{applied, config_of, differing, is_config_of, key_of, program_of};
+use super::sections::{has_one_row, read_whole, reads};
+use super::tables::{on_table, on_workers, published};
 use bpf_insn::Words;
-use bpf_verify::Program;
-use ipv4_fields::Endpoint;
 use member_group::{Command, Config};
 use read_section::{Operator, ROWS, Reclaimed, Worker, open};
 use retire::{PublishFault, Retire};
 use std::alloc::Global;
 use std::process::Abort;
 use std::sync::{Mutex, Wait};
-use std::test::Fail;
 use std::thread;
 
-// Publishes the next version, and returns whether it has this number.
-fn is_published(alloc: Global, operator: &mut Operator, number: u64) -> Result<bool, Fail> {
-    let config = config_of(alloc, u32::try_from(number).unwrap_or(0))?;
-    Ok(matches!(operator.publish(config), Ok(published) if published == number))
+// The configuration of a version.
+fn version(rt: &impl Abort, operator: &Operator, number: u64) -> Config {
+    let alloc = *operator.config().allocator();
+    config_of(rt, alloc, u32::try_from(number).unwrap_or(0))
 }
 
-// Tries to publish, and returns whether no row was free and the configuration came back.
-fn is_busy(alloc: Global, operator: &mut Operator) -> Result<bool, Fail> {
-    let refused = operator.publish(config_of(alloc, 1)?);
-    Ok(matches!(&refused, Err((PublishFault::Busy, config)) if is_config_of(config, 1)))
+// Publishes the configuration of the next version, and returns its number.
+fn publish(rt: &impl Abort, operator: &mut Operator, number: u64) -> u64 {
+    let next = version(rt, operator, number);
+    published(rt, operator, next)
+}
+
+fn publishes(rt: &impl Abort, operator: &mut Operator, number: u64) {
+    assert!(rt; publish(rt, operator, number) == number);
+}
+
+// Tries to publish: no row is free, and the configuration comes back.
+fn is_busy(rt: &impl Abort, operator: &mut Operator) {
+    let next = version(rt, operator, 1);
+    let refused = operator.publish(next);
+    assert!(rt; matches!(&refused, Err((PublishFault::Busy, config)) if is_config_of(config, 1)));
 }
 
 // The last version that finds a row while a worker stays in version 0.
 const LAST_WITH_ROW: u64 = ROWS as u64 - 1;
 
-// Publishes until no row is free, and returns whether that is after that version.
-fn fills_all_rows(alloc: Global, operator: &mut Operator) -> Result<bool, Fail> {
+// Publishes until no row is free: that is after that version.
+fn fills_all_rows(rt: &impl Abort, operator: &mut Operator) {
     for number in 0..LAST_WITH_ROW {
-        if !is_published(alloc, operator, number + 1)? {
-            return Ok(false);
-        }
+        publishes(rt, operator, number + 1);
     }
-    is_busy(alloc, operator)
+    is_busy(rt, operator);
 }
 
 // The publication of version 2 beside a section on version 1 leaves that section its version.
-fn keeps_its_version(
-    rt: &impl Abort,
-    alloc: Global,
-    operator: &mut Operator,
-    worker: &mut Worker,
-) -> Result<(), Fail> {
-    assert!(rt; is_published(alloc, operator, 1)?);
+fn keeps_its_version(rt: &impl Abort, operator: &mut Operator, worker: &mut Worker) {
+    publishes(rt, operator, 1);
     let mut section = worker.enter();
     assert!(rt; section.count() == 8192);
-    let published = is_published(alloc, operator, 2);
+    let second = publish(rt, operator, 2);
     assert!(rt; section.number() == 1);
     assert!(rt; differing(&mut section, 1) == 0);
     section.leave();
-    assert!(rt; published?);
-    assert!(rt; read_whole(worker) == (2, 0));
-    Ok(())
+    assert!(rt; second == 2);
+    reads(rt, worker, 2);
 }
 
 #[test]
-fn publication_beside_a_section(rt: HostRuntime) -> Result<(), Fail> {
-    on_table(config_of(rt.alloc(), 0)?, |operator, worker| {
-        keeps_its_version(&rt, rt.alloc(), operator, worker)
-    })
+fn publication_beside_a_section(rt: HostRuntime) {
+    on_table(&rt, config_of(&rt, rt.alloc(), 0), keeps_its_version);
 }
 
 // Stores a stray word in the row, if it is free.
@@ -90,49 +88,30 @@ fn row_of(number: u64) -> usize {
 }
 
 // Each word of a row is fetched, and a shorter image leaves no word of a longer one in it.
-fn is_used_again(
-    rt: &impl Abort,
-    alloc: Global,
-    operator: &mut Operator,
-    worker: &mut Worker,
-    number: u64,
-) -> Result<(), Fail> {
+fn is_used_again(rt: &impl Abort, operator: &mut Operator, worker: &mut Worker, number: u64) {
     // Stray words after the image, which the publication has to clear.
     for row in 0..ROWS {
         stray(operator, row, 7000);
         stray(operator, row, 8191);
     }
-    assert!(rt; is_published(alloc, operator, number)?);
-    assert!(rt; read_whole(worker) == (number, 0));
+    publishes(rt, operator, number);
+    reads(rt, worker, number);
     let row = row_of(number);
-    assert!(rt;
-        row < ROWS && operator.zeros_from(row) <= 6,
-        "version {number}"
-    );
-    Ok(())
+    assert!(rt; row < ROWS && operator.zeros_from(row) <= 6);
 }
 
 // Two rounds of scans.
-fn are_used_again(
-    rt: &impl Abort,
-    alloc: Global,
-    operator: &mut Operator,
-    worker: &mut Worker,
-) -> Result<(), Fail> {
-    assert!(rt; operator.zeros_from(0) == 6 && operator.zeros_from(1) == 0);
-    assert!(rt; !operator.is_free(0) && operator.is_free(1) && !operator.is_free(ROWS));
+fn are_used_again(rt: &impl Abort, operator: &mut Operator, worker: &mut Worker) {
+    assert!(rt; has_one_row(operator));
     for number in 1..44u64 {
-        is_used_again(rt, alloc, operator, worker, number)?;
+        is_used_again(rt, operator, worker, number);
     }
     assert!(rt; operator.number() == 43);
-    Ok(())
 }
 
 #[test]
-fn rows_are_used_again(rt: HostRuntime) -> Result<(), Fail> {
-    on_table(config_of(rt.alloc(), 0)?, |operator, worker| {
-        are_used_again(&rt, rt.alloc(), operator, worker)
-    })
+fn rows_are_used_again(rt: HostRuntime) {
+    on_table(&rt, config_of(&rt, rt.alloc(), 0), are_used_again);
 }
 
 // Enters `times` times; returns the number of sections that were not whole, or older than one before.
@@ -151,18 +130,22 @@ fn bad_sections(worker: &mut Worker, times: u32) -> u32 {
 
 // Tries to publish `times` versions; returns the number of results that were neither the next number nor `Busy` with
 // the configuration.
-fn bad_publications(alloc: Global, operator: &mut Operator, times: u32) -> Result<u32, Fail> {
+fn bad_publications(rt: &impl Abort, operator: &mut Operator, times: u32) -> u32 {
     let mut bad = 0u32;
     for _ in 0..times {
-        let next = operator.number().wrapping_add(1);
-        match operator.publish(config_of(alloc, u32::try_from(next).unwrap_or(0))?) {
-            Ok(number) if number == next => {}
-            Ok(_) => bad = bad.wrapping_add(1),
-            Err((PublishFault::Busy, config)) if config.groups().len() == 1 => {}
-            Err(_) => bad = bad.wrapping_add(1),
+        let number = operator.number().wrapping_add(1);
+        let next = version(rt, operator, number);
+        let result = operator.publish(next);
+        let right = match &result {
+            Ok(found) => *found == number,
+            Err((PublishFault::Busy, config)) => config.groups().len() == 1,
+            Err(_) => false,
+        };
+        if !right {
+            bad = bad.wrapping_add(1);
         }
     }
-    Ok(bad)
+    bad
 }
 
 fn add(rt: &impl Wait, sum: &Mutex<u32>, number: u32) {
@@ -170,36 +153,16 @@ fn add(rt: &impl Wait, sum: &Mutex<u32>, number: u32) {
     *sum = sum.wrapping_add(number);
 }
 
-// A table at version 0, with `count` of its workers.
-fn table_of(alloc: Global, count: usize) -> Result<(Operator, Vec<Worker>), Fail> {
-    let (operator, mut workers) = open(config_of(alloc, 0)?)?;
-    workers.truncate(count);
-    Ok((operator, workers))
-}
-
-// No publication was wrong, and no section was.
-fn are_whole(
-    rt: &impl Abort,
-    operator: &Operator,
-    bad_publications: Result<u32, Fail>,
-    bad_sections: u32,
-) -> Result<(), Fail> {
-    assert!(rt; bad_publications? == 0);
-    assert!(rt; bad_sections == 0);
-    // As many versions as there are other rows find one that was never used, whoever reads.
-    assert!(rt; operator.number() >= LAST_WITH_ROW);
-    Ok(())
-}
-
 // Four workers read in threads of their own while the operator publishes: each section is one whole version, in every schedule.
 #[test]
-fn sections_beside_publications(rt: HostRuntime) -> Result<(), Fail> {
-    let alloc = rt.alloc();
+fn sections_beside_publications(rt: HostRuntime) {
     let bad = Mutex::new(0u32);
     let sum = &bad;
     let runtime = &rt;
-    let (mut operator, readers) = table_of(alloc, 4)?;
-    let published = thread::scope(thread::scope_env(), runtime, |scope| {
+    let config = config_of(runtime, rt.alloc(), 0);
+    let (mut operator, mut readers) = open(config).expect(&rt, "a table opens");
+    readers.truncate(4);
+    let bad_publications = thread::scope(thread::scope_env(), runtime, |scope| {
         for worker in readers {
             let reading = scope.spawn(move || {
                 let mut worker = worker;
@@ -209,58 +172,33 @@ fn sections_beside_publications(rt: HostRuntime) -> Result<(), Fail> {
                 add(runtime, sum, 1);
             }
         }
-        bad_publications(alloc, &mut operator, 4000)
+        bad_publications(runtime, &mut operator, 4000)
     });
-    are_whole(&rt, &operator, published, bad.into_inner())
+    assert!(rt; bad_publications == 0);
+    assert!(rt; bad.into_inner() == 0);
+    // As many versions as there are other rows find one that was never used, whoever reads.
+    assert!(rt; operator.number() >= LAST_WITH_ROW);
 }
 
-// Publishes beside a section on version 0 until no row is free.
-fn fills_beside(alloc: Global, operator: &mut Operator, worker: &mut Worker) -> Result<bool, Fail> {
-    let section = worker.enter();
-    let filled = fills_all_rows(alloc, operator);
-    section.leave();
-    filled
-}
-
-// Whether a sweep reports `count` versions, from the first on.
-fn reclaims(operator: &mut Operator, first: u64, count: u64) -> bool {
-    operator.sweep() == (Reclaimed { first, count })
+// A sweep reports `count` versions, from the first on.
+fn reclaims(rt: &impl Abort, operator: &mut Operator, first: u64, count: u64) {
+    assert!(rt; operator.sweep() == (Reclaimed { first, count }));
 }
 
 // Worker 0 stays in version 0: fifteen more versions have a row, and then none is free before it leaves.
-fn is_busy_beside(
-    rt: &impl Abort,
-    alloc: Global,
-    operator: &mut Operator,
-    worker: &mut Worker,
-) -> Result<(), Fail> {
-    assert!(rt; fills_beside(alloc, operator, worker)?);
-    assert!(rt; reclaims(operator, 0, 15));
-    assert!(rt; reclaims(operator, 15, 0));
-    assert!(rt; is_published(alloc, operator, 16)?);
-    Ok(())
+fn is_busy_beside(rt: &impl Abort, operator: &mut Operator, workers: &mut Vec<Worker>) {
+    let worker = workers.first_mut().expect(rt, "a table has workers");
+    let section = worker.enter();
+    fills_all_rows(rt, operator);
+    section.leave();
+    reclaims(rt, operator, 0, 15);
+    reclaims(rt, operator, 15, 0);
+    publishes(rt, operator, 16);
 }
 
 #[test]
-fn busy_when_no_row_is_free(rt: HostRuntime) -> Result<(), Fail> {
-    on_workers(
-        config_of(rt.alloc(), 0)?,
-        |operator, workers| match workers.first_mut() {
-            Some(worker) => is_busy_beside(&rt, rt.alloc(), operator, worker),
-            None => Err(Fail::from("a table has workers")),
-        },
-    )
-}
-
-// Fifteen more versions have a row, and then none is free for good.
-fn stays_busy(rt: &impl Abort, alloc: Global, operator: &mut Operator) -> Result<(), Fail> {
-    assert!(rt; fills_all_rows(alloc, operator)?);
-    for _ in 0..3usize {
-        assert!(rt; reclaims(operator, 0, 0));
-        assert!(rt; is_busy(alloc, operator)?);
-    }
-    assert!(rt; operator.number() == 15);
-    Ok(())
+fn busy_when_no_row_is_free(rt: HostRuntime) {
+    on_workers(&rt, config_of(&rt, rt.alloc(), 0), is_busy_beside);
 }
 
 // Worker 0 abandons its section, and is gone.
@@ -270,72 +208,66 @@ fn loses_a_worker(rt: &impl Abort, workers: &mut Vec<Worker>) {
     worker.enter().abandon();
 }
 
+// Fifteen more versions have a row, and then none is free for good.
+fn lost_worker_stays(rt: &impl Abort, operator: &mut Operator, workers: &mut Vec<Worker>) {
+    loses_a_worker(rt, workers);
+    fills_all_rows(rt, operator);
+    for _ in 0..3usize {
+        reclaims(rt, operator, 0, 0);
+        is_busy(rt, operator);
+    }
+    assert!(rt; operator.number() == 15);
+}
+
 // The lost worker's section is on version 0.
 #[test]
-fn lost_worker_keeps_its_version(rt: HostRuntime) -> Result<(), Fail> {
-    on_workers(config_of(rt.alloc(), 0)?, |operator, workers| {
-        loses_a_worker(&rt, workers);
-        stays_busy(&rt, rt.alloc(), operator)
-    })
+fn lost_worker_keeps_its_version(rt: HostRuntime) {
+    on_workers(&rt, config_of(&rt, rt.alloc(), 0), lost_worker_stays);
 }
 
 // Adds a member with a filter of `count` instructions.
-fn with_filter(alloc: Global, config: &Config, member: u32, count: usize) -> Result<Config, Fail> {
+fn with_filter(rt: &impl Abort, config: &Config, member: u32, count: usize) -> Config {
+    let key = key_of(1);
     let join = Command::Join {
-        key: KEY,
+        key,
         member,
-        to: KEY,
+        to: key,
     };
-    let joined = applied(config, join)?;
-    let Ok(program) = Program::new(vec![in alloc; 0x0006_0000_0000_0000; count]?) else {
-        return Err(Fail::from("returns are a program"));
-    };
+    let words = vec![in *config.allocator(); 0x0006_0000_0000_0000; count].expect(rt, "memory");
     let set = Command::SetFilter {
-        key: KEY,
+        key,
         member,
-        program,
+        program: program_of(rt, words),
     };
-    applied(&joined, set)
+    applied(rt, &applied(rt, config, join), set)
 }
-
-const KEY: Endpoint = Endpoint {
-    address: 1,
-    port: 53,
-};
 
 // One group with two members, whose filters have these numbers of instructions: its charge is 14 more than theirs.
-fn with_filters(alloc: Global, first: usize, second: usize) -> Result<Config, Fail> {
-    let group = applied(&Config::new(alloc), Command::AddGroup { key: KEY })?;
-    let one = with_filter(alloc, &group, 1, first)?;
-    with_filter(alloc, &one, 2, second)
+fn with_filters(rt: &impl Abort, alloc: Global, first: usize, second: usize) -> Config {
+    let one = with_filter(rt, &config_of(rt, alloc, 1), 1, first);
+    with_filter(rt, &one, 2, second)
 }
 
-// Tries to publish the greatest charge, and returns whether that is version 1.
-fn greatest_is_published(alloc: Global, operator: &mut Operator) -> Result<bool, Fail> {
-    let greatest = with_filters(alloc, 4096, 4082)?;
-    Ok(greatest.charge() == 8192 && matches!(operator.publish(greatest), Ok(1)))
+// Tries to publish a charge of one more than the greatest: that is refused.
+fn one_more_is_refused(rt: &impl Abort, operator: &mut Operator) {
+    let greater = with_filters(rt, *operator.config().allocator(), 4096, 4083);
+    let refused = operator.publish(greater);
+    assert!(rt; matches!(&refused, Err((PublishFault::TooBig, config)) if config.charge() == 8193));
 }
 
-// Tries to publish a charge of one more, and returns whether that is refused.
-fn one_more_is_refused(alloc: Global, operator: &mut Operator) -> Result<bool, Fail> {
-    let refused = operator.publish(with_filters(alloc, 4096, 4083)?);
-    Ok(matches!(&refused, Err((PublishFault::TooBig, config)) if config.charge() == 8193))
-}
-
-fn publishes_up_to_the_limit(
-    rt: &impl Abort,
-    alloc: Global,
-    operator: &mut Operator,
-) -> Result<(), Fail> {
-    assert!(rt; greatest_is_published(alloc, operator)?);
-    assert!(rt; one_more_is_refused(alloc, operator)?);
+fn publishes_up_to_the_limit(rt: &impl Abort, operator: &mut Operator, _worker: &mut Worker) {
+    let greatest = with_filters(rt, *operator.config().allocator(), 4096, 4082);
+    assert!(rt; greatest.charge() == 8192);
+    assert!(rt; published(rt, operator, greatest) == 1);
+    one_more_is_refused(rt, operator);
     assert!(rt; operator.number() == 1);
-    Ok(())
 }
 
 #[test]
-fn largest_charge_is_published(rt: HostRuntime) -> Result<(), Fail> {
-    on_table(config_of(rt.alloc(), 0)?, |operator, _worker| {
-        publishes_up_to_the_limit(&rt, rt.alloc(), operator)
-    })
+fn largest_charge_is_published(rt: HostRuntime) {
+    on_table(
+        &rt,
+        config_of(&rt, rt.alloc(), 0),
+        publishes_up_to_the_limit,
+    );
 }

@@ -3,10 +3,10 @@
 ghost use Rattle.std.specs.Prelude.{◌<◌};
 
 use super::history::{EMPTY_ROW, History, begin_of, begin_of_page};
+use super::worlds::world_of;
 use member_group::Config;
 use std::alloc::Global;
 use std::process::Abort;
-use std::test::Fail;
 use versions::Step::{self, Announce, Fetch, Fill, Leave, Peek, Pin, Publish, Scan};
 use versions::{PAGES, ROWS, StepFault, TABLE_WORDS, WORKERS, World};
 
@@ -60,25 +60,13 @@ impl Numbers {
 }
 
 // Makes a step in both, if it is legal, and returns whether it is.
-fn steps(
-    rt: &impl Abort,
-    world: &mut World,
-    history: &mut History,
-    turn: u32,
-    step: Step,
-) -> Result<bool, Fail> {
+fn steps(rt: &impl Abort, world: &mut World, history: &mut History, step: Step) -> bool {
     let wanted = history.answer(step);
-    assert!(rt;
-        world.step(step) == wanted.ok_or(StepFault::NotLegal),
-        "turn {turn}: {step:?}"
-    );
-    match wanted {
-        None => Ok(false),
-        Some(word) => {
-            history.make(step, word)?;
-            Ok(true)
-        }
+    assert!(rt; world.step(step) == wanted.ok_or(StepFault::NotLegal));
+    if let Some(word) = wanted {
+        history.make(rt, step, word);
     }
+    wanted.is_some()
 }
 
 // Returns the number of steps that were legal.
@@ -87,42 +75,40 @@ fn steps_at_random(
     alloc: Global,
     world: &mut World,
     history: &mut History,
-) -> Result<u32, Fail> {
+) -> u32 {
     let mut numbers = Numbers(1);
     let mut legal = 0u32;
     for turn in 0..4000u32 {
         if turn % 8 == 0 {
-            world.propose(Config::new(alloc))?;
+            world
+                .propose(Config::new(alloc))
+                .expect(rt, "a configuration is proposed");
             history.proposed = true;
         }
-        if steps(rt, world, history, turn, numbers.step())? {
+        if steps(rt, world, history, numbers.step()) {
             legal = legal.wrapping_add(1);
         }
     }
-    Ok(legal)
+    legal
 }
 
 // The history of a table at version 0, which is the empty configuration.
-fn opened(alloc: Global) -> Result<History, Fail> {
-    let mut words = vec![in alloc; 0; TABLE_WORDS]?;
+fn opened(rt: &impl Abort, alloc: Global) -> History {
+    let mut words = vec![in alloc; 0; TABLE_WORDS].expect(rt, "memory");
     if let Some(first) = words.get_mut(begin_of(0)) {
         *first = EMPTY_ROW[0];
     }
-    Ok(History {
+    History {
         words,
         made: Vec::new(alloc),
         proposed: false,
-    })
+    }
 }
 
 #[test]
-fn steps_in_no_order(rt: HostRuntime) -> Result<(), Fail> {
-    let mut world = World::new(Config::new(rt.alloc()))?;
-    let mut history = opened(rt.alloc())?;
-    let legal = steps_at_random(&rt, rt.alloc(), &mut world, &mut history)?;
-    assert!(rt;
-        800 < legal && 20 < history.number(),
-        "{legal} steps were legal"
-    );
-    Ok(())
+fn steps_in_no_order(rt: HostRuntime) {
+    let mut world = world_of(&rt, Config::new(rt.alloc()));
+    let mut history = opened(&rt, rt.alloc());
+    let legal = steps_at_random(&rt, rt.alloc(), &mut world, &mut history);
+    assert!(rt; 800 < legal && 20 < history.number());
 }

@@ -1,17 +1,16 @@
 //! Verdicts of versions that are replaced while a worker is inside.
 
-ghost use Rattle.std.specs.Prelude.{◌≡◌, OnOk};
+ghost use Rattle.std.specs.Prelude.{◌≡◌};
 
+use super::numbered::{applied, selected};
 use super::sections::opened;
-use bpf_verify::Program;
+use super::tables::published;
 use ipv4_fields::Endpoint;
 use member_group::{Command, Config};
 use packet_verdict::{Verdict, judge};
 use read_section::{Operator, Worker};
-use retire::Retire;
 use std::alloc::Global;
 use std::process::Abort;
-use std::test::Fail;
 
 // 29 bytes of UDP over IPv4 from 10.0.0.1:5000 to 10.0.0.2:53, with the payload `a`.
 const PACKET: [u8; 29] = [
@@ -33,59 +32,20 @@ fn socket(member: u16) -> Endpoint {
     }
 }
 
-fn apply(config: &mut Config, command: &Command) -> Result<(), Fail> {
-    match config.apply(command) {
-        Ok(next) => {
-            *config = next;
-            Ok(())
-        }
-        Err(_) => Err(Fail::from("the command is applied")),
-    }
-}
-
-// Adds a group of members 1, 2 and 3.
-fn add_group(config: &mut Config) -> Result<(), Fail> {
-    apply(config, &Command::AddGroup { key: KEY })?;
+// A group of members 1, 2 and 3, whose selector returns a number.
+fn selecting(rt: &impl Abort, alloc: Global, number: u32) -> Config {
+    let mut config = applied(rt, &Config::new(alloc), Command::AddGroup { key: KEY });
     for member in 1..4u16 {
         let join = Command::Join {
             key: KEY,
             member: u32::from(member),
             to: socket(member),
         };
-        apply(config, &join)?;
+        config = applied(rt, &config, join);
     }
-    Ok(())
-}
-
-// The program that returns a number.
-fn answering(alloc: Global, number: u32) -> Result<Program<Global>, Fail> {
-    let words = vec![in alloc; 0x0006_0000_0000_0000 | u64::from(number); 1]?;
-    match Program::new(words) {
-        Ok(program) => Ok(program),
-        Err(_) => Err(Fail::from("a return is a program")),
-    }
-}
-
-fn select(config: &mut Config, number: u32) -> Result<(), Fail> {
-    let program = answering(*config.allocator(), number)?;
-    apply(config, &Command::SetSelector { key: KEY, program })
-}
-
-// A group of members 1, 2 and 3, whose selector returns a number.
-fn selecting(alloc: Global, number: u32) -> Result<Config, Fail> {
-    let mut config = Config::new(alloc);
-    add_group(&mut config)?;
-    select(&mut config, number)?;
-    Ok(config)
-}
-
-fn published(operator: &mut Operator, config: Config) -> Result<u64, Fail>
-    ensures same_table { OnOk result (operator.new.table ≡ operator.old.table) }
-{
-    match operator.publish(config) {
-        Ok(number) => Ok(number),
-        Err(_) => Err(Fail::from("a row is free")),
-    }
+    let word = 0x0006_0000_0000_0000 | u64::from(number);
+    let words = vec![in alloc; word; 1].expect(rt, "memory");
+    selected(rt, &config, KEY, words)
 }
 
 fn judged(worker: &mut Worker) -> (u64, Verdict)
@@ -109,41 +69,37 @@ fn delivered(member: u16) -> Verdict {
 
 // A configuration is published while the worker is inside: its number, the section's number, and the section's verdict.
 fn published_inside(
+    rt: &impl Abort,
     operator: &mut Operator,
     worker: &mut Worker,
     config: Config,
-) -> Result<(u64, u64, Verdict), Fail>
-    ensures same_table { OnOk result (operator.new.table ≡ operator.old.table) }
+) -> (u64, u64, Verdict)
+    ensures same_table { operator.new.table ≡ operator.old.table }
     ensures worker_table { worker.new.table ≡ worker.old.table }
 {
     let mut section = worker.enter();
-    let number = published(operator, config);
+    let number = published(rt, operator, config);
     let verdict = judge(&mut section, &PACKET);
     let held = section.number();
     section.leave();
-    Ok((number?, held, verdict))
+    (number, held, verdict)
 }
 
-fn keeps_its_version(
-    rt: &impl Abort,
-    alloc: Global,
-    operator: &mut Operator,
-    worker: &mut Worker,
-) -> Result<(), Fail>
+fn keeps_its_version(rt: &impl Abort, operator: &mut Operator, worker: &mut Worker)
     requires { worker.old.table ≡ operator.old.table }
 {
+    let alloc = *operator.config().allocator();
     assert!(rt; judged(worker) == (0, Verdict::NoGroup));
-    let first = published(operator, selecting(alloc, 0)?)?;
-    let inside = published_inside(operator, worker, selecting(alloc, 1)?)?;
+    let first = published(rt, operator, selecting(rt, alloc, 0));
+    let inside = published_inside(rt, operator, worker, selecting(rt, alloc, 1));
     assert!(rt; (first, inside) == (1, (2, 1, delivered(1))));
     worker.meet(operator);
     assert!(rt; judged(worker) == (2, delivered(2)));
-    Ok(())
 }
 
 // Worker 0, which entered at version 1, judges by it while version 2 is current; once it has left and met the operator, by version 2.
 #[test]
-fn section_keeps_its_version(rt: HostRuntime) -> Result<(), Fail> {
-    let (mut operator, mut worker, _) = opened(&rt, Config::new(rt.alloc()))?;
-    keeps_its_version(&rt, rt.alloc(), &mut operator, &mut worker)
+fn section_keeps_its_version(rt: HostRuntime) {
+    let (mut operator, mut worker, _) = opened(&rt, Config::new(rt.alloc()));
+    keeps_its_version(&rt, &mut operator, &mut worker);
 }

@@ -1,6 +1,6 @@
 //! Sections and single steps, in a written order. `publications` has sections beside publications.
 
-ghost use Rattle.std.specs.Prelude.{◌≡◌, ◌++◌, ◌<◌, ◌≤◌, ◌∷◌, IfOk, [], length, suc};
+ghost use Rattle.std.specs.Prelude.{◌≡◌, ◌++◌, ◌<◌, ◌≤◌, ◌∷◌, [], length, suc};
 ghost use Rattle.config_image.specs.Pooled.{parts};
 ghost use Rattle.versions.specs.declared.layout.TheConstants.{LAST_NUMBER};
 ghost use Rattle.versions.specs.Free.{IsFreeRow, number_after};
@@ -9,9 +9,8 @@ ghost use Rattle.read_section.specs.Layout.{IsPublishable};
 ghost use Rattle.read_section.specs.Section.{IsWholeSection};
 ghost use Rattle.read_section.specs.Worker.{WorkerValue};
 
-use super::numbered::{applied, config_of, differing};
+use super::numbered::{applied, config_of, differing, selected};
 use bpf_insn::Words;
-use bpf_verify::Program;
 use config_image::{page_count, stored_word};
 use ipv4_fields::Endpoint;
 use member_group::{Command, Config};
@@ -21,21 +20,17 @@ use read_section::{
 };
 use std::alloc::Global;
 use std::process::Abort;
-use std::test::Fail;
 
 // Two groups, whose selectors have these numbers of instructions: the charge is 10 more than theirs.
-fn with_selectors(alloc: Global, counts: [usize; 2]) -> Result<Config, Fail> {
+fn with_selectors(rt: &impl Abort, alloc: Global, counts: [usize; 2]) -> Config {
     let mut config = Config::new(alloc);
     for (port, count) in [(1, counts[0]), (2, counts[1])] {
         let key = Endpoint { address: 1, port };
-        config = applied(&config, Command::AddGroup { key })?;
-        let words = vec![in alloc; 0x0006_0000_0000_0000; count]?;
-        let Ok(program) = Program::new(words) else {
-            return Err(Fail::from("returns are a program"));
-        };
-        config = applied(&config, Command::SetSelector { key, program })?;
+        config = applied(rt, &config, Command::AddGroup { key });
+        let words = vec![in alloc; 0x0006_0000_0000_0000; count].expect(rt, "memory");
+        config = selected(rt, &config, key, words);
     }
-    Ok(config)
+    config
 }
 
 // Enters, reads the section through its `Words` alone, and leaves. It is proved that these steps were added to the
@@ -50,16 +45,21 @@ pub fn read_whole(worker: &mut Worker) -> (u64, usize)
     (number, wrong)
 }
 
+/// A section of this version is whole.
+pub fn reads(rt: &impl Abort, worker: &mut Worker, number: u64) {
+    assert!(rt; read_whole(worker) == (number, 0));
+}
+
 // A table at version 0, with its first worker and its last.
-pub fn opened(rt: &impl Abort, config: Config) -> Result<(Operator, Worker, Worker), Fail>
-    ensures first { IfOk result (λ parts. parts.1.table ≡ parts.0.table) }
-    ensures last { IfOk result (λ parts. parts.2.table ≡ parts.0.table) }
+pub fn opened(rt: &impl Abort, config: Config) -> (Operator, Worker, Worker)
+    ensures first { result.1.table ≡ result.0.table }
+    ensures last { result.2.table ≡ result.0.table }
 {
-    let (operator, mut workers) = open(config)?;
+    let (operator, mut workers) = open(config).expect(rt, "a table opens");
     assert!(rt; workers.len() == WORKERS);
     let last = workers.swap_remove(WORKERS - 1);
     let first = workers.swap_remove(0);
-    Ok((operator, first, last))
+    (operator, first, last)
 }
 
 // Fills a row word by word, and publishes the configuration from it, which has no programs.
@@ -78,23 +78,23 @@ fn fill_and_put(operator: &mut Operator, row: usize, config: Config)
 }
 
 // Publishes the configuration of this number, in the row of the same number.
-fn publish(rt: &impl Abort, alloc: Global, operator: &mut Operator, number: u32) -> Result<(), Fail>
+fn publish(rt: &impl Abort, operator: &mut Operator, number: u32)
     ensures same_table { operator.new.table ≡ operator.old.table }
 {
     let row = number as usize;
-    let config = config_of(alloc, number)?;
+    let config = config_of(rt, *operator.config().allocator(), number);
     if config.charge() > CHARGE_LIMIT
         || page_count(&config) > 0
         || operator.number() >= LAST_NUMBER
     {
-        return Err(Fail::from("a small configuration and a small number"));
+        panic!(rt; "a small configuration and a small number");
     }
     if operator.is_free(row) {
         fill_and_put(operator, row, config);
         assert!(rt; operator.number() == u64::from(number));
-        return Ok(());
+    } else {
+        panic!(rt; "the row is free");
     }
-    Err(Fail::from("the row is free"))
 }
 
 // Enters once another worker passed on what it has seen: the version is the last of that, or a later one.
@@ -119,81 +119,73 @@ fn counts_as_inside(rt: &impl Abort, operator: &mut Operator, worker: &mut Worke
     assert!(rt; operator.scan(WORKERS - 1) == 1);
     worker.meet(operator);
     assert!(rt; operator.scan(WORKERS - 1) == 1);
-    assert!(rt; read_whole(worker) == (0, 0));
+    reads(rt, worker, 0);
     assert!(rt; operator.scan(WORKERS - 1) == 0);
 }
 
 #[test]
-fn entering_after_abandon(rt: HostRuntime) -> Result<(), Fail> {
-    let (mut operator, _, mut worker) = opened(&rt, config_of(rt.alloc(), 0)?)?;
+fn entering_after_abandon(rt: HostRuntime) {
+    let (mut operator, _, mut worker) = opened(&rt, config_of(&rt, rt.alloc(), 0));
     counts_as_inside(&rt, &mut operator, &mut worker);
-    Ok(())
+}
+
+/// Whether row 0 has the configuration of a number, and the other rows are free.
+pub fn has_one_row(operator: &Operator) -> bool {
+    operator.zeros_from(0) == 6
+        && operator.zeros_from(1) == 0
+        && !operator.is_free(0)
+        && operator.is_free(1)
+        && !operator.is_free(ROWS)
 }
 
 fn is_at_version_zero(rt: &impl Abort, operator: &mut Operator, worker: &mut Worker) {
     assert!(rt; operator.number() == 0);
-    assert!(rt; operator.zeros_from(0) == 6 && operator.zeros_from(1) == 0);
-    assert!(rt; !operator.is_free(0) && operator.is_free(1) && !operator.is_free(ROWS));
+    assert!(rt; has_one_row(operator));
     assert!(rt; operator.report() == (Reclaimed { first: 0, count: 0 }));
-    assert!(rt; read_whole(worker) == (0, 0));
+    reads(rt, worker, 0);
 }
 
 #[test]
-fn table_at_version_zero(rt: HostRuntime) -> Result<(), Fail> {
-    let (mut operator, mut worker, _) = opened(&rt, config_of(rt.alloc(), 0)?)?;
+fn table_at_version_zero(rt: HostRuntime) {
+    let (mut operator, mut worker, _) = opened(&rt, config_of(&rt, rt.alloc(), 0));
     is_at_version_zero(&rt, &mut operator, &mut worker);
-    Ok(())
 }
 
 // A worker in a section keeps its version while the next one is published, and enters on that one when it met the operator.
-fn keeps_its_version(
-    rt: &impl Abort,
-    alloc: Global,
-    operator: &mut Operator,
-    worker: &mut Worker,
-) -> Result<(), Fail>
+fn keeps_its_version(rt: &impl Abort, operator: &mut Operator, worker: &mut Worker)
     requires { worker.old.table ≡ operator.old.table }
 {
-    publish(rt, alloc, operator, 1)?;
+    publish(rt, operator, 1);
     let mut section = worker.enter();
     assert!(rt; section.count() == 8192);
-    let published = publish(rt, alloc, operator, 2);
+    publish(rt, operator, 2);
     assert!(rt; section.number() == 1);
     assert!(rt; differing(&mut section, 1) == 0);
     section.leave();
-    published?;
     worker.meet(operator);
-    assert!(rt; read_whole(worker) == (2, 0));
-    Ok(())
+    reads(rt, worker, 2);
 }
 
 #[test]
-fn section_keeps_its_version(rt: HostRuntime) -> Result<(), Fail> {
-    let (mut operator, mut worker, _) = opened(&rt, config_of(rt.alloc(), 0)?)?;
-    keeps_its_version(&rt, rt.alloc(), &mut operator, &mut worker)
+fn section_keeps_its_version(rt: HostRuntime) {
+    let (mut operator, mut worker, _) = opened(&rt, config_of(&rt, rt.alloc(), 0));
+    keeps_its_version(&rt, &mut operator, &mut worker);
 }
 
 // The last worker never met the operator: it learns of a version from the first one, which did.
-fn is_told(
-    rt: &impl Abort,
-    alloc: Global,
-    operator: &mut Operator,
-    first: &mut Worker,
-    last: &mut Worker,
-) -> Result<(), Fail>
+fn is_told(rt: &impl Abort, operator: &mut Operator, first: &mut Worker, last: &mut Worker)
     requires first { first.old.table ≡ operator.old.table }
     requires last { last.old.table ≡ operator.old.table }
 {
-    publish(rt, alloc, operator, 1)?;
+    publish(rt, operator, 1);
     first.meet(operator);
     assert!(rt; enter_told(last, first) == (1, 0));
-    Ok(())
 }
 
 #[test]
-fn told_by_another_worker(rt: HostRuntime) -> Result<(), Fail> {
-    let (mut operator, mut first, mut last) = opened(&rt, config_of(rt.alloc(), 0)?)?;
-    is_told(&rt, rt.alloc(), &mut operator, &mut first, &mut last)
+fn told_by_another_worker(rt: HostRuntime) {
+    let (mut operator, mut first, mut last) = opened(&rt, config_of(&rt, rt.alloc(), 0));
+    is_told(&rt, &mut operator, &mut first, &mut last);
 }
 
 // The charge of version 0, if the table opens.
@@ -203,12 +195,11 @@ fn opened_charge(config: Config) -> Result<u64, OpenFault> {
 }
 
 #[test]
-fn largest_charge_opens(rt: HostRuntime) -> Result<(), Fail> {
-    let largest = with_selectors(rt.alloc(), [4096, 4086])?;
+fn largest_charge_opens(rt: HostRuntime) {
+    let largest = with_selectors(&rt, rt.alloc(), [4096, 4086]);
     assert!(rt; largest.charge() == 8192);
     assert!(rt; opened_charge(largest) == Ok(8192));
-    let greater = with_selectors(rt.alloc(), [4096, 4087])?;
+    let greater = with_selectors(&rt, rt.alloc(), [4096, 4087]);
     assert!(rt; greater.charge() == 8193);
     assert!(rt; opened_charge(greater) == Err(OpenFault::TooBig));
-    Ok(())
 }

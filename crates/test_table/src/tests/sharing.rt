@@ -3,58 +3,42 @@
 
 ghost use Rattle.std.specs.Prelude.{◌≡◌, ◌≤◌};
 
-use super::numbered::applied;
-use super::tables::on_table;
+use super::numbered::{applied, key_of, selected};
+use super::tables::{has_pages, on_table, published};
 use bpf_insn::Words;
-use bpf_verify::Program;
-use ipv4_fields::Endpoint;
 use member_group::{Command, Config};
 use read_section::{Operator, Worker, open};
 use retire::{PublishFault, Retire};
 use std::alloc::Global;
 use std::process::Abort;
 use std::sync::{Mutex, Wait};
-use std::test::Fail;
 use std::thread;
 
 // `ret #0`
 const RETURN: u64 = 0x0006_0000_0000_0000;
 
-fn key_of(group: u32) -> Endpoint {
-    Endpoint {
-        address: group,
-        port: 53,
-    }
-}
-
 // Gives a group a selector of one instruction, which returns this many bytes.
-fn selecting(alloc: Global, config: &Config, group: u32, bytes: u64) -> Result<Config, Fail> {
-    let Ok(program) = Program::new(vec![in alloc; RETURN.wrapping_add(bytes); 1]?) else {
-        return Err(Fail::from("a return is a program"));
-    };
-    let key = key_of(group);
-    applied(config, Command::SetSelector { key, program })
+fn selecting(rt: &impl Abort, config: &Config, group: u32, bytes: u64) -> Config {
+    let word = RETURN.wrapping_add(bytes);
+    let words = vec![in *config.allocator(); word; 1].expect(rt, "memory");
+    selected(rt, config, key_of(group), words)
 }
 
 // Groups 1, 2 and 3, whose selectors return 10, 11 and 12 bytes.
-fn three_groups(alloc: Global) -> Result<Config, Fail> {
+fn three_groups(rt: &impl Abort, alloc: Global) -> Config {
     let mut config = Config::new(alloc);
     for (group, bytes) in [(1u32, 10u64), (2, 11), (3, 12)] {
         let key = key_of(group);
-        config = applied(&config, Command::AddGroup { key })?;
-        config = selecting(alloc, &config, group, bytes)?;
+        config = applied(rt, &config, Command::AddGroup { key });
+        config = selecting(rt, &config, group, bytes);
     }
-    Ok(config)
+    config
 }
 
 // Publishes another selector of a group.
-fn selects(alloc: Global, operator: &mut Operator, group: u32, bytes: u64) -> Result<bool, Fail> {
-    let next = selecting(alloc, operator.config(), group, bytes)?;
-    Ok(operator.publish(next).is_ok())
-}
-
-fn pages_are(operator: &Operator, wanted: &[u32]) -> bool {
-    operator.current_pages() == wanted
+fn selects(rt: &impl Abort, operator: &mut Operator, group: u32, bytes: u64) {
+    let next = selecting(rt, operator.config(), group, bytes);
+    published(rt, operator, next);
 }
 
 // The group, the number that its selector then returns, and the pages that the version names. Pages 0, 1 and 2 are
@@ -68,46 +52,39 @@ const CHANGES: [(u32, u64, [u32; 3]); 5] = [
     (1, 12, [5, 4, 3]),
 ];
 
-fn selecting_for_both(alloc: Global, config: &Config, bytes: u64) -> Result<Config, Fail> {
-    let first = selecting(alloc, config, 1, bytes)?;
-    selecting(alloc, &first, 2, bytes)
-}
-
 // Publishes a selector of groups 1 and 2 that neither had.
-fn selects_for_both(alloc: Global, operator: &mut Operator, bytes: u64) -> Result<bool, Fail> {
-    let both = selecting_for_both(alloc, operator.config(), bytes)?;
-    Ok(operator.publish(both).is_ok())
+fn selects_for_both(rt: &impl Abort, operator: &mut Operator, bytes: u64) {
+    let first = selecting(rt, operator.config(), 1, bytes);
+    let both = selecting(rt, &first, 2, bytes);
+    published(rt, operator, both);
 }
 
-fn removes(operator: &mut Operator, group: u32) -> Result<bool, Fail> {
+fn removes(rt: &impl Abort, operator: &mut Operator, group: u32) {
     let key = key_of(group);
-    let without = applied(operator.config(), Command::RemoveGroup { key })?;
-    Ok(operator.publish(without).is_ok())
+    let without = applied(rt, operator.config(), Command::RemoveGroup { key });
+    published(rt, operator, without);
 }
 
-fn takes_equal_pages(rt: &impl Abort, alloc: Global, operator: &mut Operator) -> Result<(), Fail> {
+fn takes_equal_pages(rt: &impl Abort, operator: &mut Operator, _worker: &mut Worker) {
     for (group, bytes, pages) in &CHANGES {
-        assert!(rt; selects(alloc, operator, *group, *bytes)?);
-        assert!(rt; pages_are(operator, pages), "{bytes} bytes");
+        selects(rt, operator, *group, *bytes);
+        has_pages(rt, operator, pages);
     }
     // The pages of the versions before are free, except those that the current version names.
     assert!(rt; operator.sweep().count == 5);
-    assert!(rt; selects(alloc, operator, 3, 11)?);
-    assert!(rt; pages_are(operator, &[5, 4, 0]));
+    selects(rt, operator, 3, 11);
+    has_pages(rt, operator, &[5, 4, 0]);
     // Two equal programs that are new take a page each.
-    assert!(rt; selects_for_both(alloc, operator, 30)?);
-    assert!(rt; pages_are(operator, &[1, 2, 0]));
+    selects_for_both(rt, operator, 30);
+    has_pages(rt, operator, &[1, 2, 0]);
     // Without group 1 the selector of group 2 is found in the first page that has its words.
-    assert!(rt; removes(operator, 1)?);
-    assert!(rt; pages_are(operator, &[1, 0]));
-    Ok(())
+    removes(rt, operator, 1);
+    has_pages(rt, operator, &[1, 0]);
 }
 
 #[test]
-fn equal_programs_take_the_pages_of_the_version_before(rt: HostRuntime) -> Result<(), Fail> {
-    on_table(three_groups(rt.alloc())?, |operator, _worker| {
-        takes_equal_pages(&rt, rt.alloc(), operator)
-    })
+fn equal_programs_take_the_pages_of_the_version_before(rt: HostRuntime) {
+    on_table(&rt, three_groups(&rt, rt.alloc()), takes_equal_pages);
 }
 
 // ---- ten thousand versions beside sections
@@ -158,53 +135,49 @@ fn expected(number: u64, i: u64) -> u64 {
 }
 
 // A configuration with the selector that a group has in a version.
-fn with_kind(alloc: Global, config: &Config, number: u64, group: u32) -> Result<Config, Fail> {
+fn with_kind(rt: &impl Abort, config: &Config, number: u64, group: u32) -> Config {
     let kind = kind_of(number, u64::from(group));
-    let mut words = Vec::new(alloc);
+    let mut words = Vec::new(*config.allocator());
     for place in 0..len_of(kind) {
-        words.push(instruction(kind, place))?;
+        words.push(instruction(kind, place)).expect(rt, "memory");
     }
-    let Ok(program) = Program::new(words) else {
-        return Err(Fail::from("returns are a program"));
-    };
-    let key = key_of(group.wrapping_add(1));
-    applied(config, Command::SetSelector { key, program })
+    selected(rt, config, key_of(group.wrapping_add(1)), words)
 }
 
-fn first_version(alloc: Global) -> Result<Config, Fail> {
+fn first_version(rt: &impl Abort, alloc: Global) -> Config {
     let mut config = Config::new(alloc);
     for group in 0..3u32 {
         let key = key_of(group.wrapping_add(1));
-        config = applied(&config, Command::AddGroup { key })?;
-        config = with_kind(alloc, &config, 0, group)?;
+        config = applied(rt, &config, Command::AddGroup { key });
+        config = with_kind(rt, &config, 0, group);
     }
-    Ok(config)
+    config
 }
 
 // Publishes as soon as a row is free: readers end by themselves.
-fn publish_at_last(operator: &mut Operator, config: Config) -> Result<u64, Fail> {
+fn publish_at_last(rt: &impl Abort, operator: &mut Operator, config: Config) -> u64 {
     let mut next = config;
     for _ in 0..u64::MAX {
         match operator.publish(next) {
-            Ok(number) => return Ok(number),
+            Ok(number) => return number,
             Err((PublishFault::Busy, config)) => next = config,
-            Err(_) => return Err(Fail::from("no refusal but busy")),
+            Err(_) => panic!(rt; "no refusal but busy"),
         }
     }
-    Err(Fail::from("never free"))
+    panic!(rt; "never free")
 }
 
 // Publishes each version up to the last; returns the number of results that were not its number.
-fn bad_publications(alloc: Global, operator: &mut Operator) -> Result<u32, Fail> {
+fn bad_publications(rt: &impl Abort, operator: &mut Operator) -> u32 {
     let mut bad = 0u32;
     for number in 1..=LAST {
         let group = 2u32.wrapping_sub((number.wrapping_add(2) % 3) as u32);
-        let next = with_kind(alloc, operator.config(), number, group)?;
-        if publish_at_last(operator, next)? != number {
+        let next = with_kind(rt, operator.config(), number, group);
+        if publish_at_last(rt, operator, next) != number {
             bad = bad.wrapping_add(1);
         }
     }
-    Ok(bad)
+    bad
 }
 
 // The number of words of a row that are compared: those of an image, at most 179, and zeros after it. Sections are
@@ -252,29 +225,17 @@ fn add(rt: &impl Wait, sum: &Mutex<u32>, number: u32) {
     *sum = sum.wrapping_add(number);
 }
 
-// No publication was wrong, and no section was.
-fn are_whole(
-    rt: &impl Abort,
-    operator: &Operator,
-    bad_publications: Result<u32, Fail>,
-    bad_sections: u32,
-) -> Result<(), Fail> {
-    assert!(rt; bad_publications? == 0);
-    assert!(rt; operator.number() == LAST);
-    assert!(rt; bad_sections == 0);
-    Ok(())
-}
-
-// Four workers read in threads of their own, each word of each section's image.
+// Four workers read in threads of their own, each word of each section's image: no publication is wrong, and no
+// section is.
 #[test]
-fn changed_programs_beside_sections(rt: HostRuntime) -> Result<(), Fail> {
-    let alloc = rt.alloc();
+fn changed_programs_beside_sections(rt: HostRuntime) {
     let bad = Mutex::new(0u32);
     let sum = &bad;
     let runtime = &rt;
-    let (mut operator, mut readers) = open(first_version(alloc)?)?;
+    let config = first_version(runtime, rt.alloc());
+    let (mut operator, mut readers) = open(config).expect(&rt, "a table opens");
     readers.truncate(4);
-    let published = thread::scope(thread::scope_env(), runtime, |scope| {
+    let bad_publications = thread::scope(thread::scope_env(), runtime, |scope| {
         for worker in readers {
             let reading = scope.spawn(move || {
                 let mut worker = worker;
@@ -284,7 +245,9 @@ fn changed_programs_beside_sections(rt: HostRuntime) -> Result<(), Fail> {
                 add(runtime, sum, 1);
             }
         }
-        bad_publications(alloc, &mut operator)
+        bad_publications(runtime, &mut operator)
     });
-    are_whole(&rt, &operator, published, bad.into_inner())
+    assert!(rt; bad_publications == 0);
+    assert!(rt; operator.number() == LAST);
+    assert!(rt; bad.into_inner() == 0);
 }

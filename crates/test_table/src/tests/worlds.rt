@@ -1,35 +1,51 @@
 //! Lists of steps: a worker that stalls before it announces, steps with their results, and refused allocations.
 
 use super::history::{EMPTY_ROW, begin_of};
-use bpf_verify::Program;
+use super::numbered::applied;
 use ipv4_fields::Endpoint;
 use linked_list_allocator::LocalHeap;
 use member_group::{Command, Config};
-use std::alloc::{Allocator, Global};
+use std::alloc::Global;
 use std::process::Abort;
-use std::test::Fail;
 use versions::Step::{self, Announce, Fetch, Fill, Leave, Peek, Pin, Publish, Scan};
 use versions::{ROWS, StepFault, TABLE_WORDS, WORKERS, World};
 
+/// A world at version 0, which is this configuration.
+pub fn world_of(rt: &impl Abort, config: Config) -> World {
+    World::new(config).expect(rt, "a world opens")
+}
+
+// Makes a step that is legal, and returns its word.
+fn made(rt: &impl Abort, world: &mut World, step: Step) -> u64 {
+    world.step(step).expect(rt, "the step is legal")
+}
+
+/// Makes a step that is legal, and has this word.
+pub fn makes(rt: &impl Abort, world: &mut World, step: Step, word: u64) {
+    assert!(rt; world.step(step) == Ok(word));
+}
+
 // Publishes the empty configuration from the least free row, and returns the word stored; 0 if no row is free.
-fn publish(alloc: Global, world: &mut World) -> Result<u64, Fail> {
+fn publish(rt: &impl Abort, alloc: Global, world: &mut World) -> u64 {
     for row in 0..ROWS {
         let place = begin_of(row);
         let word = EMPTY_ROW[0];
         if world.step(Fill { place, word }).is_ok() {
-            world.propose(Config::new(alloc))?;
-            return Ok(world.step(Publish { row })?);
+            world
+                .propose(Config::new(alloc))
+                .expect(rt, "a configuration is proposed");
+            return made(rt, world, Publish { row });
         }
     }
-    Ok(0)
+    0
 }
 
-fn scan_all<A: Allocator>(world: &mut World<A>) -> Result<u64, Fail> {
+fn scan_all(rt: &impl Abort, world: &mut World) -> u64 {
     let mut greatest = 0;
     for place in 1..WORKERS + 1 {
-        greatest = world.step(Scan { place })?.max(greatest);
+        greatest = made(rt, world, Scan { place }).max(greatest);
     }
-    Ok(greatest)
+    greatest
 }
 
 // The number of free rows; each row adds at most 1.
@@ -46,51 +62,45 @@ fn free_rows(world: &mut World) -> usize {
 }
 
 // The result of `publish` must be this version, in some row.
-fn publishes(rt: &impl Abort, alloc: Global, world: &mut World, number: u64) -> Result<(), Fail> {
-    let mut word = publish(alloc, world)?;
+fn publishes(rt: &impl Abort, alloc: Global, world: &mut World, number: u64) {
+    let mut word = publish(rt, alloc, world);
     if word == 0 {
-        assert!(rt; scan_all(world)? == 0);
-        word = publish(alloc, world)?;
+        assert!(rt; scan_all(rt, world) == 0);
+        word = publish(rt, alloc, world);
     }
     assert!(rt; word / ROWS as u64 == number);
-    Ok(())
-}
-
-fn pinned_version(world: &mut World) -> Result<u64, Fail> {
-    Ok(world.step(Pin { worker: 0 })? / ROWS as u64)
 }
 
 // While the worker's read word shows version 3, no more becomes free than was before.
-fn holds_back(rt: &impl Abort, alloc: Global, world: &mut World) -> Result<(), Fail> {
-    assert!(rt; world.step(Announce { worker: 0 }) == Ok(4));
-    assert!(rt; pinned_version(world)? == 90);
+fn holds_back(rt: &impl Abort, alloc: Global, world: &mut World) {
+    makes(rt, world, Announce { worker: 0 }, 4);
+    assert!(rt; made(rt, world, Pin { worker: 0 }) / ROWS as u64 == 90);
     for _ in 0..3usize {
-        assert!(rt; scan_all(world)? == 4 && free_rows(world) == 0);
+        assert!(rt; scan_all(rt, world) == 4 && free_rows(world) == 0);
     }
-    assert!(rt; publish(alloc, world)? == 0);
-    assert!(rt; world.step(Leave { worker: 0 }) == Ok(0));
-    assert!(rt; scan_all(world)? == 0 && free_rows(world) == ROWS - 1);
-    Ok(())
+    assert!(rt; publish(rt, alloc, world) == 0);
+    makes(rt, world, Leave { worker: 0 }, 0);
+    assert!(rt; scan_all(rt, world) == 0 && free_rows(world) == ROWS - 1);
 }
 
-fn stalls(rt: &impl Abort, alloc: Global, world: &mut World) -> Result<(), Fail> {
+fn stalls(rt: &impl Abort, alloc: Global, world: &mut World) {
     for number in 1..4u64 {
-        publishes(rt, alloc, world, number)?;
+        publishes(rt, alloc, world, number);
     }
     // Version 3 in row 3.
-    assert!(rt; world.step(Peek { worker: 0 }) == Ok(51));
+    makes(rt, world, Peek { worker: 0 }, 51);
     for number in 4..91u64 {
-        publishes(rt, alloc, world, number)?;
+        publishes(rt, alloc, world, number);
     }
     // The last round of scans came before version 76: 75 to 89 are replaced and not free, each in a row of its own.
     assert!(rt; free_rows(world) == 0);
-    holds_back(rt, alloc, world)
+    holds_back(rt, alloc, world);
 }
 
 #[test]
-fn stalled_worker_holds_back_more(rt: HostRuntime) -> Result<(), Fail> {
-    let mut world = World::new(Config::new(rt.alloc()))?;
-    stalls(&rt, rt.alloc(), &mut world)
+fn stalled_worker_holds_back_more(rt: HostRuntime) {
+    let mut world = world_of(&rt, Config::new(rt.alloc()));
+    stalls(&rt, rt.alloc(), &mut world);
 }
 
 // Each step with its result, in a world whose version 0 is the empty configuration; no result is "not legal".
@@ -222,24 +232,22 @@ const PUBLICATIONS: [(Step, Option<u64>); 3] = [
 // Each step with its result; no result is "not legal".
 pub fn answers(rt: &impl Abort, world: &mut World, steps: &[(Step, Option<u64>)]) {
     for (step, answer) in steps {
-        assert!(rt;
-            world.step(*step) == answer.ok_or(StepFault::NotLegal),
-            "{step:?}"
-        );
+        assert!(rt; world.step(*step) == answer.ok_or(StepFault::NotLegal));
     }
 }
 
-fn answers_before_and_after(rt: &impl Abort, alloc: Global, world: &mut World) -> Result<(), Fail> {
+fn answers_before_and_after(rt: &impl Abort, alloc: Global, world: &mut World) {
     answers(rt, world, &ANSWERS);
-    world.propose(Config::new(alloc))?;
+    world
+        .propose(Config::new(alloc))
+        .expect(rt, "a configuration is proposed");
     answers(rt, world, &PUBLICATIONS);
-    Ok(())
 }
 
 #[test]
-fn steps_and_their_answers(rt: HostRuntime) -> Result<(), Fail> {
-    let mut world = World::new(Config::new(rt.alloc()))?;
-    answers_before_and_after(&rt, rt.alloc(), &mut world)
+fn steps_and_their_answers(rt: HostRuntime) {
+    let mut world = world_of(&rt, Config::new(rt.alloc()));
+    answers_before_and_after(&rt, rt.alloc(), &mut world);
 }
 
 // The group 10.0.0.2:53 with the member 7 at 127.0.0.1:9001, without programs, and its row in the pooled form: its
@@ -263,19 +271,17 @@ const GROUP_ROW: [u64; 10] = [
     0,
 ];
 
-fn with_group(alloc: Global) -> Result<Config, Fail> {
-    let added = Config::new(alloc).apply(&Command::<Program<Global>>::AddGroup { key: GROUP });
-    let joined = added.and_then(|config| {
-        config.apply(&Command::<Program<Global>>::Join {
-            key: GROUP,
-            member: 7,
-            to: Endpoint {
-                address: 0x7f00_0001,
-                port: 9001,
-            },
-        })
-    });
-    joined.map_err(|_| Fail::from("the commands are applied"))
+fn with_group(rt: &impl Abort, alloc: Global) -> Config {
+    let added = applied(rt, &Config::new(alloc), Command::AddGroup { key: GROUP });
+    let join = Command::Join {
+        key: GROUP,
+        member: 7,
+        to: Endpoint {
+            address: 0x7f00_0001,
+            port: 9001,
+        },
+    };
+    applied(rt, &added, join)
 }
 
 // Each of these words is filled in row 5, and there is no publication before the last word that is not 0.
@@ -286,7 +292,7 @@ fn fills_group(rt: &impl Abort, world: &mut World) {
             assert!(rt; world.step(Publish { row: 5 }) == Err(StepFault::NotLegal));
         }
         let place = begin_of(5).wrapping_add(i);
-        assert!(rt; world.step(Fill { place, word: *word }) == Ok(*word));
+        makes(rt, world, Fill { place, word: *word }, *word);
     }
 }
 
@@ -301,74 +307,81 @@ fn fetches_group(rt: &impl Abort, world: &mut World) {
     answers(rt, world, &ENTERS_ON_THE_GROUP);
     for (i, word) in GROUP_ROW.iter().enumerate() {
         let place = begin_of(5).wrapping_add(i);
-        assert!(rt; world.step(Fetch { worker: 63, place }) == Ok(*word));
+        makes(rt, world, Fetch { worker: 63, place }, *word);
     }
 }
 
-fn publishes_group(rt: &impl Abort, world: &mut World) {
+fn publishes_group(rt: &impl Abort, alloc: Global, world: &mut World) {
+    world
+        .propose(with_group(rt, alloc))
+        .expect(rt, "a configuration is proposed");
     fills_group(rt, world);
-    assert!(rt; world.step(Publish { row: 5 }) == Ok(21));
+    makes(rt, world, Publish { row: 5 }, 21);
     assert!(rt; world.word(0) == Some(21) && world.word(TABLE_WORDS) == None);
     fetches_group(rt, world);
 }
 
 #[test]
-fn group_is_published_word_by_word(rt: HostRuntime) -> Result<(), Fail> {
-    let mut world = World::new(Config::new(rt.alloc()))?;
-    world.propose(with_group(rt.alloc())?)?;
-    publishes_group(&rt, &mut world);
-    Ok(())
+fn group_is_published_word_by_word(rt: HostRuntime) {
+    let mut world = world_of(&rt, Config::new(rt.alloc()));
+    publishes_group(&rt, rt.alloc(), &mut world);
 }
 
+const ROUND: [Step; 4] = [
+    Peek { worker: 3 },
+    Announce { worker: 3 },
+    Pin { worker: 3 },
+    Leave { worker: 3 },
+];
+
 // Steps a worker's round, until one is refused; returns the number of rounds that were made.
-fn rounds_of<'a>(heap: &'a LocalHeap, world: &mut World<&'a LocalHeap>) -> Result<usize, Fail> {
+fn rounds_of<'a>(rt: &impl Abort, heap: &'a LocalHeap, world: &mut World<&'a LocalHeap>) -> usize {
     for round in 1..40usize {
         match world.propose(Config::new(heap)) {
             Ok(()) => {}
-            Err(StepFault::OutOfMemory) => return Ok(round),
-            Err(_) => return Err(Fail::from("only memory is refused")),
+            Err(StepFault::OutOfMemory) => return round,
+            Err(_) => panic!(rt; "only memory is refused"),
         }
-        for step in [
-            Peek { worker: 3 },
-            Announce { worker: 3 },
-            Pin { worker: 3 },
-            Leave { worker: 3 },
-        ] {
-            match world.step(step) {
+        for step in &ROUND {
+            match world.step(*step) {
                 Ok(_) => {}
                 // The world is as before: the same step is refused again for lack of memory alone.
-                Err(StepFault::OutOfMemory) if world.step(step) == Err(StepFault::OutOfMemory) =>
-                    return Ok(round),
-                Err(_) => return Err(Fail::from("only memory is refused")),
+                Err(StepFault::OutOfMemory) if world.step(*step) == Err(StepFault::OutOfMemory) =>
+                    return round,
+                Err(_) => panic!(rt; "only memory is refused"),
             }
         }
     }
-    Ok(40)
+    40
 }
 
-fn rounds_within(heap: &LocalHeap) -> Result<usize, Fail> {
+fn rounds_within(rt: &impl Abort, heap: &LocalHeap) -> usize {
     match World::new(Config::new(heap)) {
-        Ok(mut world) => rounds_of(heap, &mut world),
-        Err(StepFault::OutOfMemory) => Ok(0),
-        Err(_) => Err(Fail::from("only memory is refused")),
+        Ok(mut world) => rounds_of(rt, heap, &mut world),
+        Err(StepFault::OutOfMemory) => 0,
+        Err(_) => panic!(rt; "only memory is refused"),
     }
 }
 
+// The rounds within a heap of this size: no fewer than in a smaller one, and its memory is given back.
+fn rounds_at(rt: &impl Abort, alloc: Global, size: usize, least: usize) -> usize {
+    let heap = LocalHeap::new(alloc, size).expect(rt, "memory");
+    let rounds = rounds_within(rt, &heap);
+    assert!(rt; least <= rounds, "a heap of {size} bytes");
+    assert!(rt; heap.used() == 0);
+    rounds
+}
+
 #[test]
-fn world_under_each_refused_growth(rt: HostRuntime) -> Result<(), Fail> {
+fn world_under_each_refused_growth(rt: HostRuntime) {
     let mut least = 0;
     // From the sizes at which the words of the table are refused, and from those at which the numbers of the pages are.
     for (first, sizes) in [(5_243_000usize, 40usize), (5_505_000, 340)] {
         let mut size = first;
         for _ in 0..sizes {
-            let heap = LocalHeap::new(rt.alloc(), size)?;
-            let rounds = rounds_within(&heap)?;
-            assert!(rt; least <= rounds, "a heap of {size} bytes");
-            assert!(rt; heap.used() == 0);
-            least = rounds;
+            least = rounds_at(&rt, rt.alloc(), size, least);
             size = size.saturating_add(128);
         }
     }
     assert!(rt; least == 40);
-    Ok(())
 }
