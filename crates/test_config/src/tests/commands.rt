@@ -1,23 +1,12 @@
 //! The order of groups and of members, which no command of the program prints, and commands under refused growths.
 
+use super::images::{RET_ZERO, SAMPLE_GROUP, SAMPLE_MEMBER, accepted, applied};
 use bpf_verify::Program;
 use ipv4_fields::Endpoint;
 use linked_list_allocator::LocalHeap;
 use member_group::{Command, Config, Refusal};
 use std::alloc::Global;
-use std::test::Fail;
-
-// 10.0.0.2:53
-const SAMPLE_GROUP: Endpoint = Endpoint {
-    address: 0x0a00_0002,
-    port: 53,
-};
-
-// 127.0.0.1:9001
-const SAMPLE_MEMBER: Endpoint = Endpoint {
-    address: 0x7f00_0001,
-    port: 9001,
-};
+use std::process::Abort;
 
 fn key_at(port: u16) -> Endpoint {
     Endpoint {
@@ -27,18 +16,8 @@ fn key_at(port: u16) -> Endpoint {
 }
 
 // `ret #0`, repeated.
-fn returns(alloc: Global, count: usize) -> Result<Program<Global>, Fail> {
-    match Program::new(vec![in alloc; 0x0006_0000_0000_0000; count]?) {
-        Ok(program) => Ok(program),
-        Err(_) => Err(Fail::from("returns are accepted")),
-    }
-}
-
-fn applied(config: &Config, command: Command) -> Result<Config, Fail> {
-    match config.apply(&command) {
-        Ok(next) => Ok(next),
-        Err(_) => Err(Fail::from("the command is applied")),
-    }
+fn returns(rt: &impl Abort, alloc: Global, count: usize) -> Program<Global> {
+    accepted(rt, vec![in alloc; RET_ZERO; count].expect(rt, "memory"))
 }
 
 // A command on the sample group, or one that adds or removes a group at a port of its address.
@@ -56,9 +35,9 @@ pub(super) enum Act {
     Lock(u32),
 }
 
-fn command(alloc: Global, act: Act) -> Result<Command, Fail> {
+fn command(rt: &impl Abort, alloc: Global, act: Act) -> Command {
     let key = SAMPLE_GROUP;
-    Ok(match act {
+    match act {
         Act::Add(port) => Command::AddGroup { key: key_at(port) },
         Act::Remove(port) => Command::RemoveGroup { key: key_at(port) },
         Act::Join(member) => Command::Join {
@@ -69,25 +48,25 @@ fn command(alloc: Global, act: Act) -> Result<Command, Fail> {
         Act::Leave(member) => Command::Leave { key, member },
         Act::Select(count) => Command::SetSelector {
             key,
-            program: returns(alloc, count)?,
+            program: returns(rt, alloc, count),
         },
         Act::Unselect => Command::ClearSelector { key },
         Act::Filter(member, count) => Command::SetFilter {
             key,
             member,
-            program: returns(alloc, count)?,
+            program: returns(rt, alloc, count),
         },
         Act::Unfilter(member) => Command::ClearFilter { key, member },
         Act::Lock(member) => Command::LockFilter { key, member },
-    })
+    }
 }
 
-pub(super) fn after_each(alloc: Global, acts: &[Act]) -> Result<Config, Fail> {
+pub(super) fn after_each(rt: &impl Abort, alloc: Global, acts: &[Act]) -> Config {
     let mut config = Config::new(alloc);
     for act in acts {
-        config = applied(&config, command(alloc, *act)?)?;
+        config = applied(rt, &config, command(rt, alloc, *act));
     }
-    Ok(config)
+    config
 }
 
 // The content of a configuration: the ports of its keys in order, the numbers of its members in order, and its charge.
@@ -139,10 +118,10 @@ struct Row {
     after: Content,
 }
 
-fn holds(alloc: Global, row: &Row) -> Result<bool, Fail> {
-    let config = after_each(alloc, row.acts)?;
-    let next = applied(&config, command(alloc, row.act)?)?;
-    Ok(has(&config, &row.before) && has(&next, &row.after))
+fn holds(rt: &impl Abort, alloc: Global, row: &Row) {
+    let config = after_each(rt, alloc, row.acts);
+    let next = applied(rt, &config, command(rt, alloc, row.act));
+    assert!(rt; has(&config, &row.before) && has(&next, &row.after));
 }
 
 const FOUR_GROUPS: &[Act] = &[Act::Add(53), Act::Add(99), Act::Add(7), Act::Add(60)];
@@ -172,7 +151,7 @@ const TOO_LARGE: &[Act] = &[
     Act::Filter(1, 4083),
 ];
 
-const ROWS: [Row; 5] = [
+static ROWS: [Row; 5] = [
     Row {
         acts: &[],
         before: Content {
@@ -239,11 +218,10 @@ const ROWS: [Row; 5] = [
 ];
 
 #[test]
-fn groups_in_rising_order(rt: HostRuntime) -> Result<(), Fail> {
+fn groups_in_rising_order(rt: HostRuntime) {
     for row in &ROWS {
-        assert!(rt; holds(rt.alloc(), row)?);
+        holds(&rt, rt.alloc(), row);
     }
-    Ok(())
 }
 
 pub(super) const ONE_MEMBER: &[Act] = &[Act::Add(53), Act::Join(1)];
@@ -264,36 +242,53 @@ const STEPS: [(Act, u64); 10] = [
     (Act::Remove(53), 2),
 ];
 
+fn applied_in<'a>(
+    rt: &impl Abort,
+    alloc: Global,
+    config: &Config<&'a LocalHeap>,
+    act: Act,
+) -> Result<Config<&'a LocalHeap>, Refusal> {
+    config.apply(&command(rt, alloc, act))
+}
+
 // Applies the commands until one is refused; returns the number that were applied.
-fn applied_within(alloc: Global, heap: &LocalHeap) -> Result<usize, Fail> {
+fn applied_within(rt: &impl Abort, alloc: Global, heap: &LocalHeap) -> usize {
     let mut config = Config::new(heap);
-    for (step, (act, charge)) in STEPS.iter().enumerate() {
+    let mut steps = 0usize;
+    for (act, charge) in &STEPS {
         let before = config.charge();
-        match config.apply(&command(alloc, *act)?) {
+        match applied_in(rt, alloc, &config, *act) {
             Ok(next) => config = next,
-            Err(Refusal::OutOfMemory) if config.charge() == before => return Ok(step),
-            Err(_) => return Err(Fail::from("only memory is refused")),
+            Err(refusal) => {
+                // Only memory is refused.
+                assert!(rt; refusal == Refusal::OutOfMemory && config.charge() == before);
+                break;
+            }
         }
-        if config.charge() != *charge {
-            return Err(Fail::from("the charge is the command's"));
-        }
+        assert!(rt; config.charge() == *charge);
+        steps = steps.saturating_add(1);
     }
-    Ok(STEPS.len())
+    steps
+}
+
+// The commands that are applied within a heap of this size: no fewer than in a smaller one, and its memory is given
+// back.
+fn steps_at(rt: &impl Abort, alloc: Global, size: usize, least: usize) -> usize {
+    let heap = LocalHeap::new(alloc, size).expect(rt, "memory");
+    let steps = applied_within(rt, alloc, &heap);
+    assert!(rt; least <= steps, "a heap of {size} bytes");
+    assert!(rt; heap.used() == 0);
+    steps
 }
 
 #[test]
-fn commands_under_each_refused_growth(rt: HostRuntime) -> Result<(), Fail> {
+fn commands_under_each_refused_growth(rt: HostRuntime) {
     let mut size = 64;
     let mut least = 0;
     // Each heap has one block more than the one before, so that each allocation is once the first that is refused.
     for _ in 0..200 {
-        let heap = LocalHeap::new(rt.alloc(), size)?;
-        let steps = applied_within(rt.alloc(), &heap)?;
-        assert!(rt; least <= steps, "a heap of {size} bytes");
-        assert_eq!(rt; heap.used(), 0);
-        least = steps;
+        least = steps_at(&rt, rt.alloc(), size, least);
         size = size.saturating_add(16);
     }
-    assert_eq!(rt; least, STEPS.len());
-    Ok(())
+    assert!(rt; least == STEPS.len());
 }

@@ -11,8 +11,8 @@ use config_image::{
 };
 use ipv4_fields::Endpoint;
 use member_group::{Command, Config};
-use std::alloc::Global;
-use std::test::Fail;
+use std::alloc::{AllocError, Global};
+use std::process::Abort;
 
 // 10.0.0.2:53
 pub(super) const SAMPLE_GROUP: Endpoint = Endpoint {
@@ -30,22 +30,22 @@ pub(super) const RET_ZERO: u64 = 0x0006_0000_0000_0000;
 
 pub(super) const RET_ONE: u64 = 0x0006_0000_0000_0001;
 
-pub(super) fn applied(config: &Config, command: Command) -> Result<Config, Fail> {
-    match config.apply(&command) {
-        Ok(next) => Ok(next),
-        Err(_) => Err(Fail::from("the command is applied")),
-    }
+pub(super) fn applied(rt: &impl Abort, config: &Config, command: Command) -> Config {
+    config.apply(&command).expect(rt, "the command is applied")
 }
 
-pub(super) fn program(alloc: Global, words: &[u64]) -> Result<Program<Global>, Fail> {
-    match Program::new(words.to_vec(alloc)?) {
-        Ok(program) => Ok(program),
-        Err(_) => Err(Fail::from("the words are accepted")),
-    }
+pub(super) fn accepted(rt: &impl Abort, words: Vec<u64>) -> Program<Global> {
+    Program::new(words)
+        .ok()
+        .expect(rt, "the words are accepted")
+}
+
+fn program(rt: &impl Abort, alloc: Global, words: &[u64]) -> Program<Global> {
+    accepted(rt, words.to_vec(alloc).expect(rt, "memory"))
 }
 
 // The words of the image, each read by its place.
-fn words_of(alloc: Global, config: &Config) -> Result<Vec<u64>, Fail>
+fn words_of(alloc: Global, config: &Config) -> Result<Vec<u64>, AllocError>
     ensures { IfOk result (λ words. words.items ≡ image config.now) }
 {
     let mut words = Vec::new(alloc);
@@ -56,10 +56,15 @@ fn words_of(alloc: Global, config: &Config) -> Result<Vec<u64>, Fail>
 }
 
 // The group 10.0.0.2:53, its selector `ret #0`.
-pub(super) fn with_selector(alloc: Global) -> Result<Config, Fail> {
-    let added = applied(&Config::new(alloc), Command::AddGroup { key: SAMPLE_GROUP })?;
-    let selector = program(alloc, &[RET_ZERO])?;
+pub(super) fn with_selector(rt: &impl Abort, alloc: Global) -> Config {
+    let added = applied(
+        rt,
+        &Config::new(alloc),
+        Command::AddGroup { key: SAMPLE_GROUP },
+    );
+    let selector = program(rt, alloc, &[RET_ZERO]);
     applied(
+        rt,
         &added,
         Command::SetSelector {
             key: SAMPLE_GROUP,
@@ -69,66 +74,58 @@ pub(super) fn with_selector(alloc: Global) -> Result<Config, Fail> {
 }
 
 // The image has these words.
-fn has_image(alloc: Global, config: Result<Config, Fail>, words: &[u64]) -> Result<bool, Fail> {
-    let config = config?;
-    Ok(words_of(alloc, &config)?.as_slice() == words)
+fn has_image(rt: &impl Abort, alloc: Global, config: &Config, words: &[u64]) -> bool {
+    words_of(alloc, config).expect(rt, "memory").as_slice() == words
 }
 
 #[test]
-fn two_images(rt: HostRuntime) -> Result<(), Fail> {
+fn two_images(rt: HostRuntime) {
     let alloc = rt.alloc();
-    assert!(rt; has_image(alloc, Ok(Config::new(alloc)), &[2, 0])?);
+    assert!(rt; has_image(&rt, alloc, &Config::new(alloc), &[2, 0]));
     let words = [7, 1, 0x0a00_0002_0035, 6, 0, 0x6_0001, RET_ZERO];
-    assert!(rt; has_image(alloc, with_selector(alloc), &words)?);
-    Ok(())
+    assert!(rt; has_image(&rt, alloc, &with_selector(&rt, alloc), &words));
 }
 
 // Two groups, the first without members: both name one place of member records. Programs go group by group, the selector
 // before the filters.
-pub(super) fn two_groups(alloc: Global) -> Result<Config, Fail> {
+pub(super) fn two_groups(rt: &impl Abort, alloc: Global) -> Config {
     let next = Endpoint {
         address: 0x0a00_0002,
         port: 54,
     };
-    let mut config = applied(&with_selector(alloc)?, Command::AddGroup { key: next })?;
+    let mut config = applied(
+        rt,
+        &with_selector(rt, alloc),
+        Command::AddGroup { key: next },
+    );
     for member in [7, 8] {
-        config = applied(
-            &config,
-            Command::Join {
-                key: next,
-                member,
-                to: SAMPLE_MEMBER,
-            },
-        )?;
+        let join = Command::Join {
+            key: next,
+            member,
+            to: SAMPLE_MEMBER,
+        };
+        config = applied(rt, &config, join);
     }
-    let filter = program(alloc, &[RET_ONE])?;
-    config = applied(
-        &config,
-        Command::SetFilter {
-            key: next,
-            member: 8,
-            program: filter,
-        },
-    )?;
-    config = applied(
-        &config,
-        Command::LockFilter {
-            key: next,
-            member: 8,
-        },
-    )?;
-    let selector = program(alloc, &[RET_ZERO, RET_ONE])?;
-    applied(
-        &config,
-        Command::SetSelector {
-            key: next,
-            program: selector,
-        },
-    )
+    let filter = Command::SetFilter {
+        key: next,
+        member: 8,
+        program: program(rt, alloc, &[RET_ONE]),
+    };
+    config = applied(rt, &config, filter);
+    let lock = Command::LockFilter {
+        key: next,
+        member: 8,
+    };
+    config = applied(rt, &config, lock);
+    let selector = Command::SetSelector {
+        key: next,
+        program: program(rt, alloc, &[RET_ZERO, RET_ONE]),
+    };
+    applied(rt, &config, selector)
 }
 
 #[test]
-fn image_of_two_groups(rt: HostRuntime) -> Result<(), Fail> {
+fn image_of_two_groups(rt: HostRuntime) {
     let alloc = rt.alloc();
     let words = [
         22,
@@ -154,50 +151,48 @@ fn image_of_two_groups(rt: HostRuntime) -> Result<(), Fail> {
         RET_ONE,
         RET_ONE,
     ];
-    assert!(rt; has_image(alloc, two_groups(alloc), &words)?);
-    Ok(())
+    assert!(rt; has_image(&rt, alloc, &two_groups(&rt, alloc), &words));
 }
 
 // The group 10.0.0.2:53 with member 1 at 127.0.0.1:9001, without programs.
-pub(super) fn with_member(alloc: Global) -> Result<Config, Fail> {
-    let added = applied(&Config::new(alloc), Command::AddGroup { key: SAMPLE_GROUP })?;
-    applied(
-        &added,
-        Command::Join {
-            key: SAMPLE_GROUP,
-            member: 1,
-            to: SAMPLE_MEMBER,
-        },
-    )
+pub(super) fn with_member(rt: &impl Abort, alloc: Global) -> Config {
+    let added = applied(
+        rt,
+        &Config::new(alloc),
+        Command::AddGroup { key: SAMPLE_GROUP },
+    );
+    let join = Command::Join {
+        key: SAMPLE_GROUP,
+        member: 1,
+        to: SAMPLE_MEMBER,
+    };
+    applied(rt, &added, join)
 }
 
-fn with_locked_member(alloc: Global) -> Result<Config, Fail> {
-    applied(
-        &with_member(alloc)?,
-        Command::LockFilter {
-            key: SAMPLE_GROUP,
-            member: 1,
-        },
-    )
+fn with_locked_member(rt: &impl Abort, alloc: Global) -> Config {
+    let lock = Command::LockFilter {
+        key: SAMPLE_GROUP,
+        member: 1,
+    };
+    applied(rt, &with_member(rt, alloc), lock)
 }
 
 #[test]
-fn locked_image(rt: HostRuntime) -> Result<(), Fail> {
+fn locked_image(rt: HostRuntime) {
     let alloc = rt.alloc();
     let words = [10, 1, 0x0a00_0002_0035, 6, 1, 0, 1, 0x7f00_0001_2329, 0, 0];
-    assert!(rt; has_image(alloc, with_member(alloc), &words)?);
+    assert!(rt; has_image(&rt, alloc, &with_member(&rt, alloc), &words));
     let words = [10, 1, 0x0a00_0002_0035, 6, 1, 0, 1, 0x7f00_0001_2329, 0, 1];
-    assert!(rt; has_image(alloc, with_locked_member(alloc), &words)?);
-    Ok(())
+    assert!(rt; has_image(&rt, alloc, &with_locked_member(&rt, alloc), &words));
 }
 
 // The configurations of these tests: without groups, with one group, with two, and with a locked member.
-pub(super) fn sample(alloc: Global, number: usize) -> Result<Config, Fail> {
+pub(super) fn sample(rt: &impl Abort, alloc: Global, number: usize) -> Config {
     match number {
-        0 => Ok(Config::new(alloc)),
-        1 => with_selector(alloc),
-        2 => two_groups(alloc),
-        _ => with_locked_member(alloc),
+        0 => Config::new(alloc),
+        1 => with_selector(rt, alloc),
+        2 => two_groups(rt, alloc),
+        _ => with_locked_member(rt, alloc),
     }
 }
 
@@ -268,11 +263,10 @@ fn finds_groups(words: &[u64], config: &Config) -> bool
 }
 
 #[test]
-fn found_again(rt: HostRuntime) -> Result<(), Fail> {
+fn found_again(rt: HostRuntime) {
     for number in 0..4 {
-        let config = sample(rt.alloc(), number)?;
-        let words = words_of(rt.alloc(), &config)?;
+        let config = sample(&rt, rt.alloc(), number);
+        let words = words_of(rt.alloc(), &config).expect(&rt, "memory");
         assert!(rt; finds_groups(words.as_slice(), &config));
     }
-    Ok(())
 }

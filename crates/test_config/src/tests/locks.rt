@@ -2,7 +2,6 @@
 
 use super::commands::{Act, LOCKED_BARE, ONE_MEMBER, after_each};
 use member_group::Config;
-use std::test::Fail;
 
 // Whether each member of the one group is locked, in order, after commands.
 const LOCKS: [(&[Act], &[bool]); 7] = [
@@ -79,9 +78,8 @@ fn has_locks(config: &Config, locks: &[bool]) -> bool {
 }
 
 #[test]
-fn locks_are_the_members(rt: HostRuntime) -> Result<(), Fail> {
+fn locks_are_the_members(rt: HostRuntime) {
     for (acts, locks) in &LOCKS {
-        assert!(rt; has_locks(&after_each(rt.alloc(), acts)?, locks));
+        assert!(rt; has_locks(&after_each(&rt, rt.alloc(), acts), locks));
     }
-    Ok(())
 }

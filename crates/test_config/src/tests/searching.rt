@@ -3,8 +3,7 @@
 ghost use Rattle.std.specs.Prelude.{◌≡◌, ◌<◌, ◌≤◌, ◌^◌, IfOk, length, vec_len};
 
 use config_image::{FoundPart, PAGE_LIMIT, PageEntry, Search};
-use std::alloc::Global;
-use std::test::Fail;
+use std::alloc::{AllocError, Global};
 
 // The part that a search finds among entries of parts that end before `end`, and the number of entries that it reads.
 // `None` is for a place in no part.
@@ -44,15 +43,15 @@ const ROWS: [(usize, Option<(usize, usize, usize, usize)>); 8] = [
 
 #[test]
 fn three_parts(rt: HostRuntime) {
-    for (place, want) in ROWS {
-        let found = found_in(&THREE, THREE_END, place);
+    for (place, want) in &ROWS {
+        let found = found_in(&THREE, THREE_END, *place);
         let told = found.map(|(part, _)| (
             part.index,
             part.entry.start(),
             part.next.start(),
             part.entry.page(),
         ));
-        assert!(rt; told == want);
+        assert!(rt; told == *want);
     }
 }
 
@@ -60,7 +59,7 @@ fn three_parts(rt: HostRuntime) {
 const FIRST: u64 = 260;
 
 // The page table entries of `count` parts of 1 to 16 words, in pages from 65535 down, and the place after the last part.
-fn row(alloc: Global, count: usize) -> Result<(Vec<u64>, usize), Fail>
+fn row(alloc: Global, count: usize) -> Result<(Vec<u64>, usize), AllocError>
     requires { count ≤ PAGE_LIMIT }
     ensures entries { IfOk result (λ row. vec_len row.0 ≡ count) }
     ensures end { IfOk result (λ row. row.1 < 2 ^ 32) }
@@ -122,12 +121,11 @@ const READS: [(usize, usize); 10] = [
 ];
 
 #[test]
-fn each_place_is_found(rt: HostRuntime) -> Result<(), Fail> {
-    for (count, want) in READS {
-        if count <= PAGE_LIMIT {
-            let (entries, end) = row(rt.alloc(), count)?;
-            assert!(rt; most_reads(entries.as_slice(), end) == Some(want));
+fn each_place_is_found(rt: HostRuntime) {
+    for (count, want) in &READS {
+        if *count <= PAGE_LIMIT {
+            let (entries, end) = row(rt.alloc(), *count).expect(&rt, "memory");
+            assert!(rt; most_reads(entries.as_slice(), end) == Some(*want));
         }
     }
-    Ok(())
 }

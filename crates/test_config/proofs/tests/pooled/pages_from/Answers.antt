@@ -5,7 +5,7 @@ use Rattle.config_image.specs.Pooled.{ArePages, parts}
 use Rattle.test_config.proofs.tests.pooled.pages_from.Goals as goal
 
 pub returns-clause-room : goal.returns-clause-room
-returns-clause-room c =
+returns-clause-room g c =
     let config = c.args.config.now in let made = c.loop-part.pages.items in
     let charged : charge_of config ≤ ROW_WORDS = (let exact = c.charge.ensures.charge_exact in let small = c.if-charge.false in omega arith) in
     let counted : length made ≡ length (parts config) =
