@@ -121,7 +121,8 @@ struct Row {
 fn holds(rt: &impl Abort, alloc: Global, row: &Row) {
     let config = after_each(rt, alloc, row.acts);
     let next = applied(rt, &config, command(rt, alloc, row.act));
-    assert!(rt; has(&config, &row.before) && has(&next, &row.after));
+    assert!(rt; has(&config, &row.before));
+    assert!(rt; has(&next, &row.after));
 }
 
 const FOUR_GROUPS: &[Act] = &[Act::Add(53), Act::Add(99), Act::Add(7), Act::Add(60)];
@@ -229,7 +230,7 @@ pub(super) const ONE_MEMBER: &[Act] = &[Act::Add(53), Act::Join(1)];
 pub(super) const LOCKED_BARE: &[Act] = &[Act::Add(53), Act::Join(1), Act::Lock(1)];
 
 // Commands, and the configuration's charge after each.
-const STEPS: [(Act, u64); 10] = [
+static STEPS: [(Act, u64); 10] = [
     (Act::Add(53), 6),
     (Act::Join(1), 10),
     (Act::Join(2), 14),

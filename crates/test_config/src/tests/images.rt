@@ -74,16 +74,17 @@ pub(super) fn with_selector(rt: &impl Abort, alloc: Global) -> Config {
 }
 
 // The image has these words.
-fn has_image(rt: &impl Abort, alloc: Global, config: &Config, words: &[u64]) -> bool {
-    words_of(alloc, config).expect(rt, "memory").as_slice() == words
+fn has_image(rt: &impl Abort, alloc: Global, config: &Config, words: &[u64]) {
+    let image = words_of(alloc, config).expect(rt, "memory");
+    assert!(rt; image.as_slice() == words);
 }
 
 #[test]
 fn two_images(rt: HostRuntime) {
     let alloc = rt.alloc();
-    assert!(rt; has_image(&rt, alloc, &Config::new(alloc), &[2, 0]));
+    has_image(&rt, alloc, &Config::new(alloc), &[2, 0]);
     let words = [7, 1, 0x0a00_0002_0035, 6, 0, 0x6_0001, RET_ZERO];
-    assert!(rt; has_image(&rt, alloc, &with_selector(&rt, alloc), &words));
+    has_image(&rt, alloc, &with_selector(&rt, alloc), &words);
 }
 
 // Two groups, the first without members: both name one place of member records. Programs go group by group, the selector
@@ -124,34 +125,35 @@ pub(super) fn two_groups(rt: &impl Abort, alloc: Global) -> Config {
     applied(rt, &config, selector)
 }
 
+static TWO_GROUPS: [u64; 22] = [
+    22,
+    2,
+    0x0a00_0002_0035,
+    10,
+    0,
+    0x12_0001,
+    0x0a00_0002_0036,
+    10,
+    2,
+    0x13_0002,
+    7,
+    0x7f00_0001_2329,
+    0,
+    0,
+    8,
+    0x7f00_0001_2329,
+    0x15_0001,
+    1,
+    RET_ZERO,
+    RET_ZERO,
+    RET_ONE,
+    RET_ONE,
+];
+
 #[test]
 fn image_of_two_groups(rt: HostRuntime) {
     let alloc = rt.alloc();
-    let words = [
-        22,
-        2,
-        0x0a00_0002_0035,
-        10,
-        0,
-        0x12_0001,
-        0x0a00_0002_0036,
-        10,
-        2,
-        0x13_0002,
-        7,
-        0x7f00_0001_2329,
-        0,
-        0,
-        8,
-        0x7f00_0001_2329,
-        0x15_0001,
-        1,
-        RET_ZERO,
-        RET_ZERO,
-        RET_ONE,
-        RET_ONE,
-    ];
-    assert!(rt; has_image(&rt, alloc, &two_groups(&rt, alloc), &words));
+    has_image(&rt, alloc, &two_groups(&rt, alloc), &TWO_GROUPS);
 }
 
 // The group 10.0.0.2:53 with member 1 at 127.0.0.1:9001, without programs.
@@ -181,9 +183,9 @@ fn with_locked_member(rt: &impl Abort, alloc: Global) -> Config {
 fn locked_image(rt: HostRuntime) {
     let alloc = rt.alloc();
     let words = [10, 1, 0x0a00_0002_0035, 6, 1, 0, 1, 0x7f00_0001_2329, 0, 0];
-    assert!(rt; has_image(&rt, alloc, &with_member(&rt, alloc), &words));
+    has_image(&rt, alloc, &with_member(&rt, alloc), &words);
     let words = [10, 1, 0x0a00_0002_0035, 6, 1, 0, 1, 0x7f00_0001_2329, 0, 1];
-    assert!(rt; has_image(&rt, alloc, &with_locked_member(&rt, alloc), &words));
+    has_image(&rt, alloc, &with_locked_member(&rt, alloc), &words);
 }
 
 // The configurations of these tests: without groups, with one group, with two, and with a locked member.

@@ -4,7 +4,7 @@ use super::commands::{Act, LOCKED_BARE, ONE_MEMBER, after_each};
 use member_group::Config;
 
 // Whether each member of the one group is locked, in order, after commands.
-const LOCKS: [(&[Act], &[bool]); 7] = [
+static LOCKS: [(&[Act], &[bool]); 7] = [
     (ONE_MEMBER, &[false]),
     (LOCKED_BARE, &[true]),
     // Locked again, and beside a selector.

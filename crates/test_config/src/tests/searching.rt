@@ -25,12 +25,12 @@ fn found_in(entries: &[u64], end: usize, place: usize) -> Option<(FoundPart, usi
 }
 
 // The parts of 10, 16 and 1 words from image place 7 on, in pages 65535, 0 and 3.
-const THREE: [u64; 3] = [0x7_ffff, 0x11_0000, 0x21_0003];
+static THREE: [u64; 3] = [0x7_ffff, 0x11_0000, 0x21_0003];
 
 const THREE_END: usize = 34;
 
 // A place, and the index, the start, the end and the page of the part that is found.
-const ROWS: [(usize, Option<(usize, usize, usize, usize)>); 8] = [
+static ROWS: [(usize, Option<(usize, usize, usize, usize)>); 8] = [
     (0, None),
     (6, None),
     (7, Some((0, 7, 17, 65535))),
@@ -107,7 +107,7 @@ fn most_reads(entries: &[u64], end: usize) -> Option<usize>
 }
 
 // Numbers of entries, and the greatest number of reads.
-const READS: [(usize, usize); 10] = [
+static READS: [(usize, usize); 10] = [
     (0, 0),
     (1, 1),
     (2, 2),
