@@ -1,5 +1,6 @@
 //! The table as a machine of single steps, and as shared memory: in written orders, and in threads.
 
+mod beside;
 mod extents;
 mod history;
 mod numbered;

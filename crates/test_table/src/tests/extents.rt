@@ -70,14 +70,9 @@ fn ready_count<W: Words>(words: &mut W, first: usize, last: usize, i: usize) -> 
     ready
 }
 
-fn word<W: Words>(words: &mut W, i: usize) -> Option<u64>
-    ensures words_kept { W.words words.new ≡ W.words words.old }
-{
-    if i < words.count() {
-        Some(words.word(i))
-    } else {
-        None
-    }
+// Word `place` is that of a program of loads.
+fn has_load<W: Words>(rt: &impl Abort, words: &mut W, first: usize, last: usize, place: usize) {
+    assert!(rt; place < words.count() && words.word(place) == load_at(first, last, place));
 }
 
 // A program of loads begins at a place, and its extents have these lengths.
@@ -93,7 +88,7 @@ fn extents_are<W: Words>(rt: &impl Abort, words: &mut W, first: usize, lengths: 
         at = at.wrapping_add(*length);
     }
     for place in first..end {
-        assert!(rt; word(words, place) == Some(load_at(first, last, place)));
+        has_load(rt, words, first, last, place);
     }
 }
 

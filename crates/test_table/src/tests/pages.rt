@@ -16,7 +16,7 @@ fn page_filled(operator: &mut Operator, page: usize, place: usize) -> bool {
 }
 
 // A page, and the least free page from there on.
-const FREE_FROM: [(usize, Option<usize>); 6] = [
+static FREE_FROM: [(usize, Option<usize>); 6] = [
     (0, Some(0)),
     (1, Some(1)),
     (2046, Some(2046)),

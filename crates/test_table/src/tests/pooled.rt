@@ -58,7 +58,7 @@ fn with_long_filter(rt: &impl Abort, alloc: Global, bytes: u32) -> Config {
 }
 
 // The row of the group with a selector, whose program is in page 0; the words after it are 0.
-const SELECTOR_ROW: [u64; 8] = [
+static SELECTOR_ROW: [u64; 8] = [
     0x0007_0006_0001,
     1,
     0x0a00_0002_0035,
@@ -232,7 +232,7 @@ fn has_pages_from(rt: &impl Abort, operator: &Operator, first: u32, count: usize
 }
 
 // Word 0; the filter's first page table entry, after 6 words of the group and 4 of its member; and its last one.
-const LONG_ROW: [(usize, u64); 4] = [
+static LONG_ROW: [(usize, u64); 4] = [
     (0, 0x100a_000a_0100),
     (10, 0x000a_0000),
     (265, 0x0ffa_00ff),
@@ -249,7 +249,7 @@ fn has_filter(rt: &impl Abort, operator: &Operator, row: usize, words: &[(usize,
 }
 
 // The filter's first word, another of its first page, its last word, and the word after it.
-const LONG_PAGES: [(usize, usize, u64); 4] = [
+static LONG_PAGES: [(usize, usize, u64); 4] = [
     (0, 0, RETURN),
     (0, 15, RETURN),
     (255, 15, RETURN),
@@ -283,7 +283,7 @@ fn publishes(rt: &impl Abort, operator: &mut Operator, number: u32) {
 }
 
 // The first three versions, and the first page of each.
-const FIRST_PAGES: [(u32, u32); 3] = [(1, 256), (2, 512), (3, 768)];
+static FIRST_PAGES: [(u32, u32); 3] = [(1, 256), (2, 512), (3, 768)];
 
 fn takes_the_least_free_pages(rt: &impl Abort, operator: &mut Operator, _worker: &mut Worker) {
     for (number, first) in &FIRST_PAGES {
@@ -311,7 +311,7 @@ fn new_pages_are_the_least_free_ones(rt: HostRuntime) {
 
 // The row after a second member has joined: word 0; the filter's first page table entry, after one member record more; its last one;
 // and the next word.
-const JOINED_ROW: [(usize, u64); 4] = [
+static JOINED_ROW: [(usize, u64); 4] = [
     (0, 0x100e_000e_0100),
     (14, 0x000e_0000),
     (269, 0x0ffe_00ff),

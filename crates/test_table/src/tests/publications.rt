@@ -2,17 +2,16 @@
 
 ghost use Rattle.std.specs.Prelude.{◌<◌};
 
+use super::beside::{Course, run_beside};
 use super::numbered::{applied, config_of, differing, is_config_of, key_of, program_of};
 use super::sections::{has_one_row, read_whole, reads};
 use super::tables::{on_table, on_workers, published};
 use bpf_insn::Words;
 use member_group::{Command, Config};
-use read_section::{Operator, ROWS, Reclaimed, Worker, open};
+use read_section::{Operator, ROWS, Reclaimed, Worker};
 use retire::{PublishFault, Retire};
 use std::alloc::Global;
 use std::process::Abort;
-use std::sync::{Mutex, Wait};
-use std::thread;
 
 // The configuration of a version.
 fn version(rt: &impl Abort, operator: &Operator, number: u64) -> Config {
@@ -115,7 +114,7 @@ fn rows_are_used_again(rt: HostRuntime) {
 }
 
 // Enters `times` times; returns the number of sections that were not whole, or older than one before.
-fn bad_sections(worker: &mut Worker, times: u32) -> u32 {
+pub fn bad_sections(worker: &mut Worker, times: u32) -> u32 {
     let mut newest = 0;
     let mut bad = 0u32;
     for _ in 0..times {
@@ -130,7 +129,7 @@ fn bad_sections(worker: &mut Worker, times: u32) -> u32 {
 
 // Tries to publish `times` versions; returns the number of results that were neither the next number nor `Busy` with
 // the configuration.
-fn bad_publications(rt: &impl Abort, operator: &mut Operator, times: u32) -> u32 {
+pub fn bad_publications(rt: &impl Abort, operator: &mut Operator, times: u32) -> u32 {
     let mut bad = 0u32;
     for _ in 0..times {
         let number = operator.number().wrapping_add(1);
@@ -148,36 +147,15 @@ fn bad_publications(rt: &impl Abort, operator: &mut Operator, times: u32) -> u32
     bad
 }
 
-fn add(rt: &impl Wait, sum: &Mutex<u32>, number: u32) {
-    let mut sum = sum.lock(rt);
-    *sum = sum.wrapping_add(number);
-}
-
 // Four workers read in threads of their own while the operator publishes: each section is one whole version, in every schedule.
 #[test]
 fn sections_beside_publications(rt: HostRuntime) {
-    let bad = Mutex::new(0u32);
-    let sum = &bad;
-    let runtime = &rt;
-    let config = config_of(runtime, rt.alloc(), 0);
-    let (mut operator, mut readers) = open(config).expect(&rt, "a table opens");
-    readers.truncate(4);
-    let bad_publications = thread::scope(thread::scope_env(), runtime, |scope| {
-        for worker in readers {
-            let reading = scope.spawn(move || {
-                let mut worker = worker;
-                add(runtime, sum, bad_sections(&mut worker, 1000));
-            });
-            if reading.is_err() {
-                add(runtime, sum, 1);
-            }
-        }
-        bad_publications(runtime, &mut operator, 4000)
-    });
+    let config = config_of(&rt, rt.alloc(), 0);
+    let (bad_publications, bad_sections, last) = run_beside(&rt, config, Course::Numbers);
     assert!(rt; bad_publications == 0);
-    assert!(rt; bad.into_inner() == 0);
+    assert!(rt; bad_sections == 0);
     // As many versions as there are other rows find one that was never used, whoever reads.
-    assert!(rt; operator.number() >= LAST_WITH_ROW);
+    assert!(rt; last >= LAST_WITH_ROW);
 }
 
 // A sweep reports `count` versions, from the first on.

@@ -3,7 +3,7 @@
 ghost use Rattle.std.specs.Prelude.{◌≡◌};
 
 use super::numbered::{applied, selected};
-use super::sections::opened;
+use super::sections::{Check, on_ends};
 use super::tables::published;
 use ipv4_fields::Endpoint;
 use member_group::{Command, Config};
@@ -13,7 +13,7 @@ use std::alloc::Global;
 use std::process::Abort;
 
 // 29 bytes of UDP over IPv4 from 10.0.0.1:5000 to 10.0.0.2:53, with the payload `a`.
-const PACKET: [u8; 29] = [
+static PACKET: [u8; 29] = [
     0x45, 0x00, 0x00, 0x1d, 0x00, 0x00, 0x00, 0x00, 0x40, 0x11, 0x00, 0x00, 0x0a, 0x00, 0x00, 0x01,
     0x0a, 0x00, 0x00, 0x02, 0x13, 0x88, 0x00, 0x35, 0x00, 0x09, 0x00, 0x00, 0x61,
 ];
@@ -85,7 +85,7 @@ fn published_inside(
     (number, held, verdict)
 }
 
-fn keeps_its_version(rt: &impl Abort, operator: &mut Operator, worker: &mut Worker)
+pub fn keeps_its_version(rt: &impl Abort, operator: &mut Operator, worker: &mut Worker)
     requires { worker.old.table ≡ operator.old.table }
 {
     let alloc = *operator.config().allocator();
@@ -100,6 +100,9 @@ fn keeps_its_version(rt: &impl Abort, operator: &mut Operator, worker: &mut Work
 // Worker 0, which entered at version 1, judges by it while version 2 is current; once it has left and met the operator, by version 2.
 #[test]
 fn section_keeps_its_version(rt: HostRuntime) {
-    let (mut operator, mut worker, _) = opened(&rt, Config::new(rt.alloc()));
-    keeps_its_version(&rt, &mut operator, &mut worker);
+    on_ends(
+        &rt,
+        Config::new(rt.alloc()),
+        Check::VerdictsKeepTheirVersion,
+    );
 }

@@ -10,6 +10,7 @@ ghost use Rattle.read_section.specs.Section.{IsWholeSection};
 ghost use Rattle.read_section.specs.Worker.{WorkerValue};
 
 use super::numbered::{applied, config_of, differing, selected};
+use super::replacing;
 use bpf_insn::Words;
 use config_image::{page_count, stored_word};
 use ipv4_fields::Endpoint;
@@ -51,7 +52,7 @@ pub fn reads(rt: &impl Abort, worker: &mut Worker, number: u64) {
 }
 
 // A table at version 0, with its first worker and its last.
-pub fn opened(rt: &impl Abort, config: Config) -> (Operator, Worker, Worker)
+fn opened(rt: &impl Abort, config: Config) -> (Operator, Worker, Worker)
     ensures first { result.1.table ≡ result.0.table }
     ensures last { result.2.table ≡ result.0.table }
 {
@@ -60,6 +61,30 @@ pub fn opened(rt: &impl Abort, config: Config) -> (Operator, Worker, Worker)
     let last = workers.swap_remove(WORKERS - 1);
     let first = workers.swap_remove(0);
     (operator, first, last)
+}
+
+/// The checks of workers that are known to be of the operator's table.
+pub enum Check {
+    EntersAfterAbandon,
+    IsAtVersionZero,
+    SectionKeepsItsVersion,
+    IsTold,
+    VerdictsKeepTheirVersion,
+}
+
+/// Opens a table at this configuration, and makes a check with its operator, its first worker and its last. It alone
+/// owns them.
+pub fn on_ends(rt: &impl Abort, config: Config, check: Check) {
+    let (mut operator, mut first, mut last) = opened(rt, config);
+    match check {
+        Check::EntersAfterAbandon => counts_as_inside(rt, &mut operator, &mut last),
+        Check::IsAtVersionZero => is_at_version_zero(rt, &mut operator, &mut first),
+        Check::SectionKeepsItsVersion => keeps_its_version(rt, &mut operator, &mut first),
+        Check::IsTold => is_told(rt, &mut operator, &mut first, &mut last),
+        Check::VerdictsKeepTheirVersion => {
+            replacing::keeps_its_version(rt, &mut operator, &mut first)
+        }
+    }
 }
 
 // Fills a row word by word, and publishes the configuration from it, which has no programs.
@@ -125,8 +150,11 @@ fn counts_as_inside(rt: &impl Abort, operator: &mut Operator, worker: &mut Worke
 
 #[test]
 fn entering_after_abandon(rt: HostRuntime) {
-    let (mut operator, _, mut worker) = opened(&rt, config_of(&rt, rt.alloc(), 0));
-    counts_as_inside(&rt, &mut operator, &mut worker);
+    on_ends(
+        &rt,
+        config_of(&rt, rt.alloc(), 0),
+        Check::EntersAfterAbandon,
+    );
 }
 
 /// Whether row 0 has the configuration of a number, and the other rows are free.
@@ -147,8 +175,7 @@ fn is_at_version_zero(rt: &impl Abort, operator: &mut Operator, worker: &mut Wor
 
 #[test]
 fn table_at_version_zero(rt: HostRuntime) {
-    let (mut operator, mut worker, _) = opened(&rt, config_of(&rt, rt.alloc(), 0));
-    is_at_version_zero(&rt, &mut operator, &mut worker);
+    on_ends(&rt, config_of(&rt, rt.alloc(), 0), Check::IsAtVersionZero);
 }
 
 // A worker in a section keeps its version while the next one is published, and enters on that one when it met the operator.
@@ -168,8 +195,11 @@ fn keeps_its_version(rt: &impl Abort, operator: &mut Operator, worker: &mut Work
 
 #[test]
 fn section_keeps_its_version(rt: HostRuntime) {
-    let (mut operator, mut worker, _) = opened(&rt, config_of(&rt, rt.alloc(), 0));
-    keeps_its_version(&rt, &mut operator, &mut worker);
+    on_ends(
+        &rt,
+        config_of(&rt, rt.alloc(), 0),
+        Check::SectionKeepsItsVersion,
+    );
 }
 
 // The last worker never met the operator: it learns of a version from the first one, which did.
@@ -184,8 +214,7 @@ fn is_told(rt: &impl Abort, operator: &mut Operator, first: &mut Worker, last: &
 
 #[test]
 fn told_by_another_worker(rt: HostRuntime) {
-    let (mut operator, mut first, mut last) = opened(&rt, config_of(&rt, rt.alloc(), 0));
-    is_told(&rt, &mut operator, &mut first, &mut last);
+    on_ends(&rt, config_of(&rt, rt.alloc(), 0), Check::IsTold);
 }
 
 // The charge of version 0, if the table opens.

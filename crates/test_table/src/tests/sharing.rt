@@ -3,16 +3,15 @@
 
 ghost use Rattle.std.specs.Prelude.{◌≡◌, ◌≤◌};
 
+use super::beside::{Course, run_beside};
 use super::numbered::{applied, key_of, selected};
 use super::tables::{has_pages, on_table, published};
 use bpf_insn::Words;
 use member_group::{Command, Config};
-use read_section::{Operator, Worker, open};
+use read_section::{Operator, Worker};
 use retire::{PublishFault, Retire};
 use std::alloc::Global;
 use std::process::Abort;
-use std::sync::{Mutex, Wait};
-use std::thread;
 
 // `ret #0`
 const RETURN: u64 = 0x0006_0000_0000_0000;
@@ -44,7 +43,7 @@ fn selects(rt: &impl Abort, operator: &mut Operator, group: u32, bytes: u64) {
 // The group, the number that its selector then returns, and the pages that the version names. Pages 0, 1 and 2 are
 // those of version 0, and stay in use; 19 is in one page at a time, and 12 is a new program if the version before has
 // no such one.
-const CHANGES: [(u32, u64, [u32; 3]); 5] = [
+static CHANGES: [(u32, u64, [u32; 3]); 5] = [
     (2, 19, [0, 3, 2]),
     (3, 19, [0, 3, 3]),
     (1, 19, [3, 3, 3]),
@@ -168,7 +167,7 @@ fn publish_at_last(rt: &impl Abort, operator: &mut Operator, config: Config) -> 
 }
 
 // Publishes each version up to the last; returns the number of results that were not its number.
-fn bad_publications(rt: &impl Abort, operator: &mut Operator) -> u32 {
+pub fn bad_publications(rt: &impl Abort, operator: &mut Operator) -> u32 {
     let mut bad = 0u32;
     for number in 1..=LAST {
         let group = 2u32.wrapping_sub((number.wrapping_add(2) % 3) as u32);
@@ -203,7 +202,7 @@ fn differing<W: Words>(words: &mut W, number: u64) -> usize
 }
 
 // Reads the words of sections, up to one on the last version; returns the number of sections that were not whole.
-fn bad_sections(worker: &mut Worker) -> u32 {
+pub fn bad_sections(worker: &mut Worker) -> u32 {
     let mut bad = 0u32;
     for _ in 0..1000u32 {
         let mut section = worker.enter();
@@ -220,34 +219,13 @@ fn bad_sections(worker: &mut Worker) -> u32 {
     bad
 }
 
-fn add(rt: &impl Wait, sum: &Mutex<u32>, number: u32) {
-    let mut sum = sum.lock(rt);
-    *sum = sum.wrapping_add(number);
-}
-
 // Four workers read in threads of their own, each word of each section's image: no publication is wrong, and no
 // section is.
 #[test]
 fn changed_programs_beside_sections(rt: HostRuntime) {
-    let bad = Mutex::new(0u32);
-    let sum = &bad;
-    let runtime = &rt;
-    let config = first_version(runtime, rt.alloc());
-    let (mut operator, mut readers) = open(config).expect(&rt, "a table opens");
-    readers.truncate(4);
-    let bad_publications = thread::scope(thread::scope_env(), runtime, |scope| {
-        for worker in readers {
-            let reading = scope.spawn(move || {
-                let mut worker = worker;
-                add(runtime, sum, bad_sections(&mut worker));
-            });
-            if reading.is_err() {
-                add(runtime, sum, 1);
-            }
-        }
-        bad_publications(runtime, &mut operator)
-    });
+    let config = first_version(&rt, rt.alloc());
+    let (bad_publications, bad_sections, last) = run_beside(&rt, config, Course::Programs);
     assert!(rt; bad_publications == 0);
-    assert!(rt; operator.number() == LAST);
-    assert!(rt; bad.into_inner() == 0);
+    assert!(rt; last == LAST);
+    assert!(rt; bad_sections == 0);
 }

@@ -71,16 +71,22 @@ fn publishes(rt: &impl Abort, alloc: Global, world: &mut World, number: u64) {
     assert!(rt; word / ROWS as u64 == number);
 }
 
+// Scans show at most this version's read word, and leave this many free rows.
+fn frees(rt: &impl Abort, world: &mut World, greatest: u64, free: usize) {
+    assert!(rt; scan_all(rt, world) == greatest);
+    assert!(rt; free_rows(world) == free);
+}
+
 // While the worker's read word shows version 3, no more becomes free than was before.
 fn holds_back(rt: &impl Abort, alloc: Global, world: &mut World) {
     makes(rt, world, Announce { worker: 0 }, 4);
     assert!(rt; made(rt, world, Pin { worker: 0 }) / ROWS as u64 == 90);
     for _ in 0..3usize {
-        assert!(rt; scan_all(rt, world) == 4 && free_rows(world) == 0);
+        frees(rt, world, 4, 0);
     }
     assert!(rt; publish(rt, alloc, world) == 0);
     makes(rt, world, Leave { worker: 0 }, 0);
-    assert!(rt; scan_all(rt, world) == 0 && free_rows(world) == ROWS - 1);
+    frees(rt, world, 0, ROWS - 1);
 }
 
 fn stalls(rt: &impl Abort, alloc: Global, world: &mut World) {
@@ -104,7 +110,7 @@ fn stalled_worker_holds_back_more(rt: HostRuntime) {
 }
 
 // Each step with its result, in a world whose version 0 is the empty configuration; no result is "not legal".
-const ANSWERS: [(Step, Option<u64>); 37] = [
+static ANSWERS: [(Step, Option<u64>); 37] = [
     (Announce { worker: 0 }, None),
     (Pin { worker: 0 }, None),
     (Leave { worker: 0 }, None),
@@ -223,7 +229,7 @@ const ANSWERS: [(Step, Option<u64>); 37] = [
 ];
 
 // Once a configuration is proposed: publications from a row, with their results.
-const PUBLICATIONS: [(Step, Option<u64>); 3] = [
+static PUBLICATIONS: [(Step, Option<u64>); 3] = [
     (Publish { row: 7 }, None),
     (Publish { row: 1 }, Some(17)),
     (Publish { row: 1 }, None),
@@ -258,7 +264,7 @@ const GROUP: Endpoint = Endpoint {
     port: 53,
 };
 
-const GROUP_ROW: [u64; 10] = [
+static GROUP_ROW: [u64; 10] = [
     0x000a_000a_0000,
     1,
     0x0a00_0002_0035,
@@ -296,7 +302,7 @@ fn fills_group(rt: &impl Abort, world: &mut World) {
     }
 }
 
-const ENTERS_ON_THE_GROUP: [(Step, Option<u64>); 3] = [
+static ENTERS_ON_THE_GROUP: [(Step, Option<u64>); 3] = [
     (Peek { worker: 63 }, Some(21)),
     (Announce { worker: 63 }, Some(2)),
     (Pin { worker: 63 }, Some(21)),
@@ -327,7 +333,7 @@ fn group_is_published_word_by_word(rt: HostRuntime) {
     publishes_group(&rt, rt.alloc(), &mut world);
 }
 
-const ROUND: [Step; 4] = [
+static ROUND: [Step; 4] = [
     Peek { worker: 3 },
     Announce { worker: 3 },
     Pin { worker: 3 },
