@@ -39,7 +39,7 @@ fn ending(list: &[u64]) -> Result<(u32, u32, usize), Fault> {
     Ok((value, steps, words.reads.wrapping_sub(before)))
 }
 
-const LISTS: [(&[u64], Result<(u32, u32, usize), Fault>); 5] = [
+static LISTS: [(&[u64], Result<(u32, u32, usize), Fault>); 5] = [
     // ldb [9]; jeq #17,0,1; ret #65535; ret #0
     (
         &[

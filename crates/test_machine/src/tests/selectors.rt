@@ -4,25 +4,26 @@
 use bpf_machine::{MAX_PACKET, run};
 use bpf_verify::Program;
 use selector_buckets::{
-    HashBy, Share, can_drain, can_share, depth_of, drained, selector, spread, table_of_program,
+    Buckets, HashBy, Share, can_drain, can_share, depth_of, drained, selector, spread,
+    table_of_program,
 };
 use std::alloc::Global;
-use std::test::Fail;
+use std::process::Abort;
 
-const SHARES: [Share; 3] = [
+static SHARES: [Share; 3] = [
     Share { id: 1, weight: 5 },
     Share { id: 2, weight: 3 },
     Share { id: 3, weight: 2 },
 ];
 
 // Computed by a separate script.
-const MEMBERS: [u8; 16] = [0, 0, 2, 0, 2, 0, 2, 0, 0, 1, 1, 1, 0, 1, 1, 0];
+static MEMBERS: [u8; 16] = [0, 0, 2, 0, 2, 0, 2, 0, 0, 1, 1, 1, 0, 1, 1, 0];
 
 // After the second of the three has left, by examples/spread/table.py.
-const DRAINED: [u8; 16] = [0, 0, 1, 0, 1, 0, 1, 0, 0, 1, 1, 1, 0, 1, 1, 0];
+static DRAINED: [u8; 16] = [0, 0, 1, 0, 1, 0, 1, 0, 0, 1, 1, 1, 0, 1, 1, 0];
 
 // A datagram without data from 10.0.0.1:53000 to 10.0.0.2:53.
-const PACKET: [u8; 28] = [
+static PACKET: [u8; 28] = [
     69, 0, 0, 28, 0, 0, 0, 0, 64, 17, 0, 0, 10, 0, 0, 1, 10, 0, 0, 2, 207, 8, 0, 53, 0, 8, 0, 0,
 ];
 
@@ -35,45 +36,39 @@ fn returns(program: &Program<Global>, packet: &[u8], value: u32) -> bool {
     run(&mut words, 0, count, packet).value == value
 }
 
-fn reads_back(alloc: Global, program: &Program<Global>) -> Result<bool, Fail> {
-    match table_of_program(alloc, program.words())? {
-        Some((HashBy::Both, read)) => Ok(read.members() == MEMBERS.as_slice()),
-        _ => Ok(false),
+fn reads_back(rt: &impl Abort, alloc: Global, program: &Program<Global>) -> bool {
+    match table_of_program(alloc, program.words()).expect(rt, "memory") {
+        Some((HashBy::Both, read)) => read.members() == MEMBERS.as_slice(),
+        _ => false,
     }
 }
 
-#[test]
-fn spreads_by_weight(rt: HostRuntime) -> Result<(), Fail> {
+// The table of 16 buckets that the three share.
+fn shared(rt: &impl Abort, alloc: Global) -> Buckets {
     let shares = SHARES.as_slice();
-    let Some(depth) = depth_of(16) else {
-        return Err(Fail::from("16 buckets have a depth"));
-    };
+    let depth = depth_of(16).expect(rt, "16 buckets have a depth");
     if !can_share(shares) {
-        return Err(Fail::from("three members can share a table"));
+        panic!(rt; "three members can share a table");
     }
-    let buckets = spread(rt.alloc(), shares, depth)?;
+    spread(alloc, shares, depth).expect(rt, "memory")
+}
+
+#[test]
+fn spreads_by_weight(rt: HostRuntime) {
+    let buckets = shared(&rt, rt.alloc());
     assert!(rt; buckets.members() == MEMBERS.as_slice());
-    let program = selector(rt.alloc(), HashBy::Both, &buckets)?;
+    let program = selector(rt.alloc(), HashBy::Both, &buckets).expect(&rt, "memory");
     assert!(rt; returns(&program, PACKET.as_slice(), 2));
-    assert!(rt; reads_back(rt.alloc(), &program)?);
-    Ok(())
+    assert!(rt; reads_back(&rt, rt.alloc(), &program));
 }
 
 #[test]
-fn drains_a_member(rt: HostRuntime) -> Result<(), Fail> {
-    let shares = SHARES.as_slice();
-    let Some(depth) = depth_of(16) else {
-        return Err(Fail::from("16 buckets have a depth"));
-    };
-    if !can_share(shares) {
-        return Err(Fail::from("three members can share a table"));
-    }
-    let buckets = spread(rt.alloc(), shares, depth)?;
+fn drains_a_member(rt: HostRuntime) {
+    let buckets = shared(&rt, rt.alloc());
     assert!(rt; !can_drain(&buckets, 1, 2));
     if !can_drain(&buckets, 1, 3) {
-        return Err(Fail::from("two members can take the buckets of the third"));
+        panic!(rt; "two members can take the buckets of the third");
     }
-    let rest = drained(rt.alloc(), &buckets, 1, 3)?;
+    let rest = drained(rt.alloc(), &buckets, 1, 3).expect(&rt, "memory");
     assert!(rt; rest.members() == DRAINED.as_slice());
-    Ok(())
 }
