@@ -7,13 +7,13 @@ use bpf_machine::{MAX_PACKET, run};
 use bpf_verify::Program;
 use bumpalo::Bump;
 use filter_tree::{
-    Arith, Direction, Expr, Operator, OutOfMemory, Prefix, Primitive, Protocol, Relation, Size,
-    Transport,
+    Arith, Direction, Expr, Operator, Prefix, Primitive, Protocol, Relation, Size, Transport,
 };
-use std::alloc::{AllocError, Allocator, Global};
+use std::alloc::{Allocator, Global};
+use std::process::Abort;
 
 /// 29 bytes of UDP over IPv4 from 10.0.0.1:5000 to 10.0.0.2:53, with one byte of payload.
-pub const SAMPLE_PACKET: [u8; 29] = [
+pub static SAMPLE_PACKET: [u8; 29] = [
     0x45, 0x00, 0x00, 0x1d, 0x00, 0x00, 0x00, 0x00, 0x40, 0x11, 0x00, 0x00, 0x0a, 0x00, 0x00, 0x01,
     0x0a, 0x00, 0x00, 0x02, 0x13, 0x88, 0x00, 0x35, 0x00, 0x09, 0x00, 0x00, 0x61,
 ];
@@ -31,65 +31,80 @@ pub const UDP: Primitive = Primitive::Proto(17);
 
 pub const PORT_53: Primitive = Primitive::Port(Transport::Unnamed, Direction::Either, 53);
 
-pub type Tree = Result<Expr<Global>, OutOfMemory>;
-
-pub type Number = Result<Arith<Global>, OutOfMemory>;
-
-pub fn not(alloc: Global, inner: Expr<Global>) -> Tree {
-    Ok(Expr::Not(Box::new(alloc, inner)?))
+fn boxed(rt: &impl Abort, alloc: Global, tree: Expr<Global>) -> Box<Expr<Global>> {
+    Box::new(alloc, tree).expect(rt, "memory")
 }
 
-pub fn and(alloc: Global, left: Expr<Global>, right: Primitive) -> Tree {
-    let left = Box::new(alloc, left)?;
-    Ok(Expr::And(left, Box::new(alloc, Expr::Primitive(right))?))
+pub fn not(rt: &impl Abort, alloc: Global, inner: Expr<Global>) -> Expr<Global> {
+    Expr::Not(boxed(rt, alloc, inner))
 }
 
-pub fn or(alloc: Global, left: Expr<Global>, right: Primitive) -> Tree {
-    let left = Box::new(alloc, left)?;
-    Ok(Expr::Or(left, Box::new(alloc, Expr::Primitive(right))?))
+pub fn and(rt: &impl Abort, alloc: Global, left: Expr<Global>, right: Primitive) -> Expr<Global> {
+    let left = boxed(rt, alloc, left);
+    Expr::And(left, boxed(rt, alloc, Expr::Primitive(right)))
+}
+
+pub fn or(rt: &impl Abort, alloc: Global, left: Expr<Global>, right: Primitive) -> Expr<Global> {
+    let left = boxed(rt, alloc, left);
+    Expr::Or(left, boxed(rt, alloc, Expr::Primitive(right)))
 }
 
 /// `udp or ip and port 53`.
-pub fn udp_or_ip_and_port_53(alloc: Global) -> Tree {
-    and(
-        alloc,
-        or(alloc, Expr::Primitive(UDP), Primitive::Ip)?,
-        PORT_53,
-    )
+pub fn udp_or_ip_and_port_53(rt: &impl Abort, alloc: Global) -> Expr<Global> {
+    let udp_or_ip = or(rt, alloc, Expr::Primitive(UDP), Primitive::Ip);
+    and(rt, alloc, udp_or_ip, PORT_53)
 }
 
 pub fn compared(left: Arith<Global>, relation: Relation, right: u32) -> Expr<Global> {
     Expr::Relation(left, relation, Arith::Number(right))
 }
 
+fn boxed_arith(rt: &impl Abort, alloc: Global, arith: Arith<Global>) -> Box<Arith<Global>> {
+    Box::new(alloc, arith).expect(rt, "memory")
+}
+
 pub fn operation(
+    rt: &impl Abort,
     alloc: Global,
     left: Arith<Global>,
     operator: Operator,
     right: Arith<Global>,
-) -> Number {
-    let left = Box::new(alloc, left)?;
-    Ok(Arith::Operation(left, operator, Box::new(alloc, right)?))
+) -> Arith<Global> {
+    let left = boxed_arith(rt, alloc, left);
+    Arith::Operation(left, operator, boxed_arith(rt, alloc, right))
 }
 
-pub fn accessor(alloc: Global, protocol: Protocol, index: Arith<Global>, size: Size) -> Number {
-    Ok(Arith::Accessor(protocol, Box::new(alloc, index)?, size))
+pub fn accessor(
+    rt: &impl Abort,
+    alloc: Global,
+    protocol: Protocol,
+    index: Arith<Global>,
+    size: Size,
+) -> Arith<Global> {
+    Arith::Accessor(protocol, boxed_arith(rt, alloc, index), size)
 }
 
 /// `protocol[index] = value`.
-pub fn byte_is(alloc: Global, protocol: Protocol, index: u32, value: u32) -> Tree {
-    let byte = accessor(alloc, protocol, Arith::Number(index), Size::One)?;
-    Ok(compared(byte, Relation::Equal, value))
+pub fn byte_is(
+    rt: &impl Abort,
+    alloc: Global,
+    protocol: Protocol,
+    index: u32,
+    value: u32,
+) -> Expr<Global> {
+    let byte = accessor(rt, alloc, protocol, Arith::Number(index), Size::One);
+    compared(byte, Relation::Equal, value)
 }
 
 /// `not udp[100] = 1`.
-pub fn not_a_load(alloc: Global) -> Tree {
-    not(alloc, byte_is(alloc, Protocol::Udp, 100, 1)?)
+pub fn not_a_load(rt: &impl Abort, alloc: Global) -> Expr<Global> {
+    not(rt, alloc, byte_is(rt, alloc, Protocol::Udp, 100, 1))
 }
 
 /// `udp[9] = 0 or ip`, in which the load fails before `or`.
-pub fn load_or_ip(alloc: Global) -> Tree {
-    or(alloc, byte_is(alloc, Protocol::Udp, 9, 0)?, Primitive::Ip)
+pub fn load_or_ip(rt: &impl Abort, alloc: Global) -> Expr<Global> {
+    let load = byte_is(rt, alloc, Protocol::Udp, 9, 0);
+    or(rt, alloc, load, Primitive::Ip)
 }
 
 pub fn net(direction: Direction, address: u32, length: u32) -> Option<Primitive> {
@@ -168,17 +183,12 @@ pub fn follows(before: Option<bool>, now: Option<bool>) -> bool {
 
 pub const ARENA: usize = 1024;
 
-fn fill(arena: &Bump<Global>, room: usize) -> Result<(), AllocError> {
+/// An arena that has this many bytes left, and gets no more.
+pub fn arena_with(rt: &impl Abort, alloc: Global, room: usize) -> Bump<Global> {
+    let arena = Bump::try_with_capacity(alloc, ARENA).expect(rt, "memory");
     arena.set_allocation_limit(Some(arena.allocated_bytes()));
     for _ in 0..arena.chunk_capacity().saturating_sub(room) {
-        arena.try_alloc(0u8)?;
+        arena.try_alloc(0u8).expect(rt, "a byte of the arena");
     }
-    Ok(())
-}
-
-/// An arena that has this many bytes left, and gets no more.
-pub fn arena_with(alloc: Global, room: usize) -> Result<Bump<Global>, AllocError> {
-    let arena = Bump::try_with_capacity(alloc, ARENA)?;
-    fill(&arena, room)?;
-    Ok(arena)
+    arena
 }

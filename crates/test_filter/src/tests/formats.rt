@@ -1,11 +1,11 @@
 //! Programs in numbers: the words of texts, and what tcpdump prints, read and printed in heaps of every size.
 
+use super::assert_numbered;
 use bpf_formats::{FormatFault, print_dd, print_ddd, print_hex, read_ddd, read_hex};
 use bpf_verify::Program;
 use linked_list_allocator::LocalHeap;
 use std::alloc::Global;
 use std::process::Abort;
-use std::test::Fail;
 
 // tcpdump 4.99.3, `tcpdump -y RAW -ddd ip`, and the same with `-dd`.
 const IP_DDD: &str = "5\n48 0 0 0\n84 0 0 240\n21 0 1 64\n6 0 0 262144\n6 0 0 0\n";
@@ -26,7 +26,7 @@ const IP_HEX: &str = "\
 0006000000000000
 ";
 
-const IP: [u64; 5] = [
+static IP: [u64; 5] = [
     0x0030_0000_0000_0000,
     0x0054_0000_0000_00f0,
     0x0015_0001_0000_0040,
@@ -37,7 +37,7 @@ const IP: [u64; 5] = [
 const RET_A: u64 = 0x0016_0000_0000_0000;
 
 // Whatever the fields are, and however often a line or a comma ends.
-const DDD: [(&[u8], &[u64]); 8] = [
+static DDD: [(&[u8], &[u64]); 8] = [
     (b"0", &[]),
     (b"0\n\n", &[]),
     (b"1\n22 0 0 0", &[RET_A]),
@@ -49,7 +49,7 @@ const DDD: [(&[u8], &[u64]); 8] = [
     (b"1\n0 1 2 3\n", &[0x0000_0102_0000_0003]),
 ];
 
-const HEX: [(&[u8], &[u64]); 5] = [
+static HEX: [(&[u8], &[u64]); 5] = [
     (b"", &[]),
     (b"\n,\n", &[]),
     (b"0016000000000000", &[RET_A]),
@@ -74,65 +74,78 @@ fn is_hex(alloc: Global, text: &[u8], words: &[u64]) -> bool {
 
 #[test]
 fn texts_and_their_words(rt: HostRuntime) {
-    for (text, words) in &DDD {
-        assert!(rt; is_ddd(rt.alloc(), text, words), "{text:?}");
+    for (row, (text, words)) in DDD.iter().enumerate() {
+        assert_numbered(&rt, is_ddd(rt.alloc(), text, words), row as u64);
     }
-    for (text, words) in &HEX {
-        assert!(rt; is_hex(rt.alloc(), text, words), "{text:?}");
+    for (row, (text, words)) in HEX.iter().enumerate() {
+        assert_numbered(&rt, is_hex(rt.alloc(), text, words), row as u64);
     }
 }
 
-// Reads a program in a heap's memory, and prints it there in each format: returns how far memory lasted.
-fn formatted_within(heap: &LocalHeap) -> Result<usize, Fail> {
-    let words = match read_ddd(heap, IP_DDD.as_bytes()) {
-        Ok(words) => words,
-        Err(FormatFault::OutOfMemory) => return Ok(0),
-        Err(_) => return Err(Fail::from("only memory is refused")),
-    };
-    let Ok(program) = Program::new(words) else {
-        return Err(Fail::from("the words are accepted"));
-    };
-    if program.words() != &IP as &[u64] {
-        return Err(Fail::from("the words are those of the text"));
-    }
-    let Ok(in_decimal) = print_ddd(heap, &program) else {
-        return Ok(1);
-    };
-    let Ok(in_c) = print_dd(heap, &program) else {
-        return Ok(2);
-    };
-    let Ok(in_hex) = print_hex(heap, &program) else {
-        return Ok(3);
-    };
-    if in_decimal.as_str() != IP_DDD || in_c.as_str() != IP_DD || in_hex.as_str() != IP_HEX {
-        return Err(Fail::from("the whole program is printed"));
-    }
+fn read_again(rt: &impl Abort, heap: &LocalHeap, program: &Program<&LocalHeap>) -> usize {
     match read_hex(heap, IP_HEX.as_bytes()) {
-        Ok(words) if words.as_slice() == program.words() => Ok(5),
-        Err(FormatFault::OutOfMemory) => Ok(4),
-        _ => Err(Fail::from("only memory is refused")),
+        Ok(words) => {
+            assert!(rt; words.as_slice() == program.words());
+            5
+        }
+        Err(fault) => {
+            assert!(rt; fault == FormatFault::OutOfMemory);
+            4
+        }
+    }
+}
+
+fn printed_within(rt: &impl Abort, heap: &LocalHeap, program: &Program<&LocalHeap>) -> usize {
+    let Ok(in_decimal) = print_ddd(heap, program) else {
+        return 1;
+    };
+    let Ok(in_c) = print_dd(heap, program) else {
+        return 2;
+    };
+    let Ok(in_hex) = print_hex(heap, program) else {
+        return 3;
+    };
+    assert!(rt; in_decimal.as_str() == IP_DDD);
+    assert!(rt; in_c.as_str() == IP_DD);
+    assert!(rt; in_hex.as_str() == IP_HEX);
+    read_again(rt, heap, program)
+}
+
+// Reads a program in a heap's memory, and prints it there in each format: returns how far memory lasted.
+fn formatted_within(rt: &impl Abort, heap: &LocalHeap) -> usize {
+    match read_ddd(heap, IP_DDD.as_bytes()) {
+        Ok(words) => {
+            let program = Program::new(words)
+                .ok()
+                .expect(rt, "the words are accepted");
+            assert!(rt; program.words() == IP.as_slice());
+            printed_within(rt, heap, &program)
+        }
+        Err(fault) => {
+            assert!(rt; fault == FormatFault::OutOfMemory);
+            0
+        }
     }
 }
 
 // The same in a heap of this many bytes, which has all of them again afterwards.
-fn steps_within(rt: &impl Abort, alloc: Global, size: usize) -> Result<usize, Fail> {
-    let heap = LocalHeap::new(alloc, size)?;
-    let steps = formatted_within(&heap)?;
+fn steps_within(rt: &impl Abort, alloc: Global, size: usize) -> usize {
+    let heap = LocalHeap::new(alloc, size).expect(rt, "memory");
+    let steps = formatted_within(rt, &heap);
     assert!(rt; heap.used() == 0);
-    Ok(steps)
+    steps
 }
 
 #[test]
-fn formats_under_each_refused_growth(rt: HostRuntime) -> Result<(), Fail> {
+fn formats_under_each_refused_growth(rt: HostRuntime) {
     let mut size = 64;
     let mut least = 0;
     // Each heap has one block more than the one before, so that each allocation is once the first that is refused.
     for _ in 0..120 {
-        let steps = steps_within(&rt, rt.alloc(), size)?;
-        assert!(rt; least <= steps, "a heap of {size} bytes");
+        let steps = steps_within(&rt, rt.alloc(), size);
+        assert_numbered(&rt, least <= steps, size as u64);
         least = steps;
         size = size.saturating_add(16);
     }
     assert!(rt; least == 5);
-    Ok(())
 }

@@ -4,9 +4,8 @@ mod memory;
 
 use super::assert_numbered;
 use super::built::{
-    Number, PORT_53, SAMPLE_PACKET, Tree, UDP, accessor, and, byte_is, compared, is_arith_printed,
-    is_tree_of, load_or_ip, net, not, not_a_load, operation, or, packet_with,
-    udp_or_ip_and_port_53,
+    PORT_53, SAMPLE_PACKET, UDP, accessor, and, byte_is, compared, is_arith_printed, is_tree_of,
+    load_or_ip, net, not, not_a_load, operation, or, packet_with, udp_or_ip_and_port_53,
 };
 use Direction::{Both, Destination, Either, Source};
 use Transport::{Tcp, Udp, Unnamed};
@@ -14,46 +13,59 @@ use filter_tree::{
     Arith, Direction, Expr, Operator, Prefix, Primitive, Protocol, Relation, Size, Transport, Truth,
 };
 use std::alloc::Global;
+use std::process::Abort;
 
 /// `not udp or ip and port 53`.
-fn connected(alloc: Global) -> Tree {
-    let not_udp = not(alloc, Expr::Primitive(UDP))?;
-    and(alloc, or(alloc, not_udp, Primitive::Ip)?, PORT_53)
+fn connected(rt: &impl Abort, alloc: Global) -> Expr<Global> {
+    let not_udp = not(rt, alloc, Expr::Primitive(UDP));
+    and(rt, alloc, or(rt, alloc, not_udp, Primitive::Ip), PORT_53)
 }
 
 /// `1+2*len`.
-fn sum(alloc: Global) -> Number {
-    let product = operation(alloc, Arith::Number(2), Operator::Multiply, Arith::Length)?;
-    operation(alloc, Arith::Number(1), Operator::Add, product)
+fn sum(rt: &impl Abort, alloc: Global) -> Arith<Global> {
+    let product = operation(
+        rt,
+        alloc,
+        Arith::Number(2),
+        Operator::Multiply,
+        Arith::Length,
+    );
+    operation(rt, alloc, Arith::Number(1), Operator::Add, product)
 }
 
 /// `1+2*len == ip[0 : 2]`.
-fn computed(alloc: Global) -> Tree {
-    let sum = sum(alloc)?;
-    let half = accessor(alloc, Protocol::Ip, Arith::Number(0), Size::Two)?;
-    Ok(Expr::Relation(sum, Relation::Equal, half))
+fn computed(rt: &impl Abort, alloc: Global) -> Expr<Global> {
+    let sum = sum(rt, alloc);
+    let half = accessor(rt, alloc, Protocol::Ip, Arith::Number(0), Size::Two);
+    Expr::Relation(sum, Relation::Equal, half)
 }
 
 /// `(1 << len) / 3`.
-fn third(alloc: Global) -> Number {
-    let power = operation(alloc, Arith::Number(1), Operator::ShiftLeft, Arith::Length)?;
-    operation(alloc, power, Operator::Divide, Arith::Number(3))
+fn third(rt: &impl Abort, alloc: Global) -> Arith<Global> {
+    let power = operation(
+        rt,
+        alloc,
+        Arith::Number(1),
+        Operator::ShiftLeft,
+        Arith::Length,
+    );
+    operation(rt, alloc, power, Operator::Divide, Arith::Number(3))
 }
 
 /// `udp[(1 << len) / 3 : 4] = 97`.
-fn divided(alloc: Global) -> Tree {
-    let word = accessor(alloc, Protocol::Udp, third(alloc)?, Size::Four)?;
-    Ok(compared(word, Relation::Equal, 97))
+fn divided(rt: &impl Abort, alloc: Global) -> Expr<Global> {
+    let word = accessor(rt, alloc, Protocol::Udp, third(rt, alloc), Size::Four);
+    compared(word, Relation::Equal, 97)
 }
 
 /// `udp and less 28`.
-fn short_udp(alloc: Global) -> Tree {
-    and(alloc, Expr::Primitive(UDP), Primitive::AtMost(28))
+fn short_udp(rt: &impl Abort, alloc: Global) -> Expr<Global> {
+    and(rt, alloc, Expr::Primitive(UDP), Primitive::AtMost(28))
 }
 
 /// `(1 << len) / 3 = 7`.
-fn third_is_seven(alloc: Global) -> Tree {
-    Ok(compared(third(alloc)?, Relation::Equal, 7))
+fn third_is_seven(rt: &impl Abort, alloc: Global) -> Expr<Global> {
+    compared(third(rt, alloc), Relation::Equal, 7)
 }
 
 // A question about a tree, with the answer.
@@ -88,11 +100,8 @@ fn is_answered(alloc: Global, tree: &Expr<Global>, asked: Asked) -> bool {
     }
 }
 
-fn is_so(alloc: Global, tree: Tree, asked: Asked) -> bool {
-    match tree {
-        Ok(tree) => is_answered(alloc, &tree, asked),
-        Err(_) => false,
-    }
+fn is_so(alloc: Global, tree: Expr<Global>, asked: Asked) -> bool {
+    is_answered(alloc, &tree, asked)
 }
 
 const CONNECTED: &str = "( ( not ip proto 17 or ip ) and port 53 )";
@@ -111,35 +120,39 @@ const DIVIDED: &str = "udp[((1<<len)/3):4] = 97";
 #[test]
 fn printed_trees_and_their_measures(rt: HostRuntime) {
     let alloc = rt.alloc();
-    let payload = byte_is(alloc, Protocol::Udp, 8, 0x61);
+    let payload = byte_is(&rt, alloc, Protocol::Udp, 8, 0x61);
     assert!(rt; is_so(alloc, payload, Asked::Text("udp[8:1] = 97", 3, 1, 27)));
-    assert!(rt; is_so(alloc, connected(alloc), Asked::Text(CONNECTED, 4, 0, 44)));
-    assert!(rt; is_so(alloc, computed(alloc), Asked::Text(COMPUTED, 4, 2, 27)));
-    assert!(rt; is_so(alloc, short_udp(alloc), Asked::Text(SHORT_UDP, 2, 0, 15)));
     assert!(rt;
         is_so(
             alloc,
-            third_is_seven(alloc),
-            Asked::Text(THIRD_IS_SEVEN, 4, 1, 20)
+            connected(&rt, alloc),
+            Asked::Text(CONNECTED, 4, 0, 44)
         )
     );
-    assert!(rt; is_so(alloc, divided(alloc), Asked::Text(DIVIDED, 5, 1, 37)));
+    assert!(rt; is_so(alloc, computed(&rt, alloc), Asked::Text(COMPUTED, 4, 2, 27)));
+    assert!(rt;
+        is_so(
+            alloc,
+            short_udp(&rt, alloc),
+            Asked::Text(SHORT_UDP, 2, 0, 15)
+        )
+    );
+    let seven = third_is_seven(&rt, alloc);
+    assert!(rt; is_so(alloc, seven, Asked::Text(THIRD_IS_SEVEN, 4, 1, 20)));
+    assert!(rt; is_so(alloc, divided(&rt, alloc), Asked::Text(DIVIDED, 5, 1, 37)));
 }
 
-fn is_printed_alone(alloc: Global, arith: Number, text: &str) -> bool {
-    match arith {
-        Ok(arith) => is_arith_printed(&arith, alloc, text).unwrap_or(false),
-        Err(_) => false,
-    }
+fn is_printed_alone(alloc: Global, arith: Arith<Global>, text: &str) -> bool {
+    is_arith_printed(&arith, alloc, text).unwrap_or(false)
 }
 
 // An arithmetic expression by itself has the text of a relation's side.
 #[test]
 fn printed_arithmetic(rt: HostRuntime) {
     let alloc = rt.alloc();
-    let word = accessor(alloc, Protocol::Tcp, Arith::Length, Size::Four);
-    assert!(rt; is_printed_alone(alloc, sum(alloc), SUM));
-    assert!(rt; is_printed_alone(alloc, third(alloc), "( ( 1 << len )/3 )"));
+    let word = accessor(&rt, alloc, Protocol::Tcp, Arith::Length, Size::Four);
+    assert!(rt; is_printed_alone(alloc, sum(&rt, alloc), SUM));
+    assert!(rt; is_printed_alone(alloc, third(&rt, alloc), "( ( 1 << len )/3 )"));
     assert!(rt; is_printed_alone(alloc, word, "tcp[len:4]"));
 }
 
@@ -197,7 +210,7 @@ fn is_primitive(alloc: Global, place: u64) -> bool {
         Some((primitive, text, size)) => {
             is_so(
                 alloc,
-                Ok(Expr::Primitive(primitive)),
+                Expr::Primitive(primitive),
                 Asked::Text(text, 1, 0, size),
             )
         }
@@ -262,26 +275,29 @@ fn lengths_at(place: u64) -> Option<(Shape, (usize, usize), (usize, usize))> {
     })
 }
 
-fn shaped(alloc: Global, shape: &Shape) -> Tree {
+fn shaped(rt: &impl Abort, alloc: Global, shape: &Shape) -> Expr<Global> {
     match shape {
-        Shape::Primitive(primitive) => Ok(Expr::Primitive(*primitive)),
-        Shape::Byte(protocol, index, value) => byte_is(alloc, *protocol, *index, *value),
+        Shape::Primitive(primitive) => Expr::Primitive(*primitive),
+        Shape::Byte(protocol, index, value) => byte_is(rt, alloc, *protocol, *index, *value),
     }
 }
 
-fn negated(alloc: Global, shape: &Shape) -> Tree {
-    not(alloc, shaped(alloc, shape)?)
+fn has_lengths(
+    rt: &impl Abort,
+    alloc: Global,
+    row: &(Shape, (usize, usize), (usize, usize)),
+) -> bool {
+    let negated = not(rt, alloc, shaped(rt, alloc, &row.0));
+    is_so(
+        alloc,
+        shaped(rt, alloc, &row.0),
+        Asked::Lengths(row.1.0, row.1.1),
+    ) && is_answered(alloc, &negated, Asked::Lengths(row.2.0, row.2.1))
 }
 
-fn has_lengths(alloc: Global, row: &(Shape, (usize, usize), (usize, usize))) -> bool {
-    let asked = Asked::Lengths(row.1.0, row.1.1);
-    let asked_of_not = Asked::Lengths(row.2.0, row.2.1);
-    is_so(alloc, shaped(alloc, &row.0), asked) && is_so(alloc, negated(alloc, &row.0), asked_of_not)
-}
-
-fn is_accepted_and_negated(alloc: Global, place: u64) -> bool {
+fn is_accepted_and_negated(rt: &impl Abort, alloc: Global, place: u64) -> bool {
     match lengths_at(place) {
-        Some(row) => has_lengths(alloc, &row),
+        Some(row) => has_lengths(rt, alloc, &row),
         None => false,
     }
 }
@@ -289,10 +305,10 @@ fn is_accepted_and_negated(alloc: Global, place: u64) -> bool {
 #[test]
 fn prefixes_of_k(rt: HostRuntime) {
     for place in 0..14 {
-        assert_numbered(&rt, is_accepted_and_negated(rt.alloc(), place), place);
+        assert_numbered(&rt, is_accepted_and_negated(&rt, rt.alloc(), place), place);
     }
     let whole = compared(Arith::Length, Relation::Equal, 29);
-    assert!(rt; is_so(rt.alloc(), Ok(whole), Asked::Lengths(29, 29)));
+    assert!(rt; is_so(rt.alloc(), whole, Asked::Lengths(29, 29)));
 }
 
 #[test]
@@ -301,36 +317,31 @@ fn not_keeps_a_failed_load(rt: HostRuntime) {
     assert!(rt;
         is_so(
             alloc,
-            not_a_load(alloc),
+            not_a_load(&rt, alloc),
             Asked::Truth(0, 0x45, Truth::Fails)
         )
     );
-    assert!(rt; is_so(alloc, not_a_load(alloc), Asked::Truth(9, 6, Truth::Yes)));
+    assert!(rt;
+        is_so(
+            alloc,
+            not_a_load(&rt, alloc),
+            Asked::Truth(9, 6, Truth::Yes)
+        )
+    );
 }
 
 #[test]
 fn and_and_or_bind_alike(rt: HostRuntime) {
     let alloc = rt.alloc();
-    assert!(rt;
-        is_so(
-            alloc,
-            udp_or_ip_and_port_53(alloc),
-            Asked::Truth(0, 0x45, Truth::Yes)
-        )
-    );
-    assert!(rt;
-        is_so(
-            alloc,
-            udp_or_ip_and_port_53(alloc),
-            Asked::Truth(23, 99, Truth::No)
-        )
-    );
+    let tree = udp_or_ip_and_port_53(&rt, alloc);
+    assert!(rt; is_answered(alloc, &tree, Asked::Truth(0, 0x45, Truth::Yes)));
+    assert!(rt; is_answered(alloc, &tree, Asked::Truth(23, 99, Truth::No)));
 }
 
 fn primitive_is_yes(alloc: Global, primitive: Primitive) -> bool {
     is_so(
         alloc,
-        Ok(Expr::Primitive(primitive)),
+        Expr::Primitive(primitive),
         Asked::Truth(0, 0x45, Truth::Yes),
     )
 }
@@ -340,18 +351,18 @@ fn length_bounds_and_payload_byte(rt: HostRuntime) {
     let alloc = rt.alloc();
     assert!(rt; primitive_is_yes(alloc, Primitive::AtMost(29)));
     assert!(rt; primitive_is_yes(alloc, Primitive::AtLeast(29)));
-    let payload = byte_is(alloc, Protocol::Udp, 8, 0x61);
+    let payload = byte_is(&rt, alloc, Protocol::Udp, 8, 0x61);
     assert!(rt; is_so(alloc, payload, Asked::Truth(0, 0x45, Truth::Yes)));
     assert!(rt;
         is_so(
             alloc,
-            load_or_ip(alloc),
+            load_or_ip(&rt, alloc),
             Asked::Truth(0, 0x45, Truth::Fails)
         )
     );
 }
 
-const PREFIXES: [(u32, u32, bool); 7] = [
+static PREFIXES: [(u32, u32, bool); 7] = [
     (0, 0, true),
     (1 << 31, 0, false),
     (1 << 31, 1, true),
