@@ -29,8 +29,11 @@ fn each_is_free(rt: &impl Abort, operator: &mut Operator, _worker: &mut Worker) 
     for (from, least) in &FREE_FROM {
         assert!(rt; operator.free_page(*from) == *least);
         let is_page = *from < PAGES;
-        assert!(rt; page_filled(operator, *from, 0) == is_page);
-        assert!(rt; page_filled(operator, *from, 15) == is_page);
+        let filled = (
+            page_filled(operator, *from, 0),
+            page_filled(operator, *from, 15),
+        );
+        assert!(rt; filled == (is_page, is_page));
     }
 }
 

@@ -29,11 +29,16 @@ fn publishes(rt: &impl Abort, operator: &mut Operator, number: u64) {
     assert!(rt; publish(rt, operator, number) == number);
 }
 
+// Tries to publish, which is refused: why, and the configuration that comes back.
+fn refused(rt: &impl Abort, operator: &mut Operator, config: Config) -> (PublishFault, Config) {
+    operator.publish(config).err().expect(rt, "it is refused")
+}
+
 // Tries to publish: no row is free, and the configuration comes back.
 fn is_busy(rt: &impl Abort, operator: &mut Operator) {
     let next = version(rt, operator, 1);
-    let refused = operator.publish(next);
-    assert!(rt; matches!(&refused, Err((PublishFault::Busy, config)) if is_config_of(config, 1)));
+    let (fault, config) = refused(rt, operator, next);
+    assert!(rt; fault == PublishFault::Busy && is_config_of(&config, 1));
 }
 
 // The last version that finds a row while a worker stays in version 0.
@@ -51,11 +56,12 @@ fn fills_all_rows(rt: &impl Abort, operator: &mut Operator) {
 fn keeps_its_version(rt: &impl Abort, operator: &mut Operator, worker: &mut Worker) {
     publishes(rt, operator, 1);
     let mut section = worker.enter();
-    assert!(rt; section.count() == 8192);
+    let count = section.count();
     let second = publish(rt, operator, 2);
-    assert!(rt; section.number() == 1);
-    assert!(rt; differing(&mut section, 1) == 0);
+    let number = section.number();
+    let wrong = differing(&mut section, 1);
     section.leave();
+    assert!(rt; (count, number, wrong) == (8192, 1, 0));
     assert!(rt; second == 2);
     reads(rt, worker, 2);
 }
@@ -229,8 +235,8 @@ fn with_filters(rt: &impl Abort, alloc: Global, first: usize, second: usize) -> 
 // Tries to publish a charge of one more than the greatest: that is refused.
 fn one_more_is_refused(rt: &impl Abort, operator: &mut Operator) {
     let greater = with_filters(rt, *operator.config().allocator(), 4096, 4083);
-    let refused = operator.publish(greater);
-    assert!(rt; matches!(&refused, Err((PublishFault::TooBig, config)) if config.charge() == 8193));
+    let (fault, config) = refused(rt, operator, greater);
+    assert!(rt; fault == PublishFault::TooBig && config.charge() == 8193);
 }
 
 fn publishes_up_to_the_limit(rt: &impl Abort, operator: &mut Operator, _worker: &mut Worker) {

@@ -72,19 +72,30 @@ pub enum Check {
     VerdictsKeepTheirVersion,
 }
 
+fn makes(
+    rt: &impl Abort,
+    check: Check,
+    operator: &mut Operator,
+    first: &mut Worker,
+    last: &mut Worker,
+)
+    requires first { first.old.table ≡ operator.old.table }
+    requires last { last.old.table ≡ operator.old.table }
+{
+    match check {
+        Check::EntersAfterAbandon => counts_as_inside(rt, operator, last),
+        Check::IsAtVersionZero => is_at_version_zero(rt, operator, first),
+        Check::SectionKeepsItsVersion => keeps_its_version(rt, operator, first),
+        Check::IsTold => is_told(rt, operator, first, last),
+        Check::VerdictsKeepTheirVersion => replacing::keeps_its_version(rt, operator, first),
+    }
+}
+
 /// Opens a table at this configuration, and makes a check with its operator, its first worker and its last. It alone
 /// owns them.
 pub fn on_ends(rt: &impl Abort, config: Config, check: Check) {
     let (mut operator, mut first, mut last) = opened(rt, config);
-    match check {
-        Check::EntersAfterAbandon => counts_as_inside(rt, &mut operator, &mut last),
-        Check::IsAtVersionZero => is_at_version_zero(rt, &mut operator, &mut first),
-        Check::SectionKeepsItsVersion => keeps_its_version(rt, &mut operator, &mut first),
-        Check::IsTold => is_told(rt, &mut operator, &mut first, &mut last),
-        Check::VerdictsKeepTheirVersion => {
-            replacing::keeps_its_version(rt, &mut operator, &mut first)
-        }
-    }
+    makes(rt, check, &mut operator, &mut first, &mut last);
 }
 
 // Fills a row word by word, and publishes the configuration from it, which has no programs.
@@ -184,11 +195,12 @@ fn keeps_its_version(rt: &impl Abort, operator: &mut Operator, worker: &mut Work
 {
     publish(rt, operator, 1);
     let mut section = worker.enter();
-    assert!(rt; section.count() == 8192);
+    let count = section.count();
     publish(rt, operator, 2);
-    assert!(rt; section.number() == 1);
-    assert!(rt; differing(&mut section, 1) == 0);
+    let number = section.number();
+    let wrong = differing(&mut section, 1);
     section.leave();
+    assert!(rt; (count, number, wrong) == (8192, 1, 0));
     worker.meet(operator);
     reads(rt, worker, 2);
 }
@@ -223,12 +235,16 @@ fn opened_charge(config: Config) -> Result<u64, OpenFault> {
     Ok(operator.config().charge())
 }
 
+// A configuration has this charge, and opens a table so.
+fn opens(rt: &impl Abort, config: Config, charge: u64, opened: Result<u64, OpenFault>) {
+    assert!(rt; config.charge() == charge);
+    assert!(rt; opened_charge(config) == opened);
+}
+
 #[test]
 fn largest_charge_opens(rt: HostRuntime) {
     let largest = with_selectors(&rt, rt.alloc(), [4096, 4086]);
-    assert!(rt; largest.charge() == 8192);
-    assert!(rt; opened_charge(largest) == Ok(8192));
+    opens(&rt, largest, 8192, Ok(8192));
     let greater = with_selectors(&rt, rt.alloc(), [4096, 4087]);
-    assert!(rt; greater.charge() == 8193);
-    assert!(rt; opened_charge(greater) == Err(OpenFault::TooBig));
+    opens(&rt, greater, 8193, Err(OpenFault::TooBig));
 }
