@@ -28,13 +28,16 @@ fn charge_of(alloc: Global, tree: &Expr<Global>) -> Result<u32, CompileFault> {
     }
 }
 
+fn has_charge(rt: &impl Abort, alloc: Global, count: u16, charge: Result<u32, CompileFault>) {
+    let tree = port_ranges(rt, alloc, count);
+    assert!(rt; charge_of(alloc, &tree) == charge);
+}
+
 // 121 have a size of 4116.
 #[test]
 fn hundred_and_twenty_port_ranges(rt: HostRuntime) {
-    let alloc = rt.alloc();
-    assert!(rt; charge_of(alloc, &port_ranges(&rt, alloc, 120)) == Ok(4082));
-    let too_long = port_ranges(&rt, alloc, 121);
-    assert!(rt; charge_of(alloc, &too_long) == Err(CompileFault::TooLong));
+    has_charge(&rt, rt.alloc(), 120, Ok(4082));
+    has_charge(&rt, rt.alloc(), 121, Err(CompileFault::TooLong));
 }
 
 // Whether the tree's program, in the arena's memory, is right; none if memory is refused.
@@ -48,11 +51,11 @@ fn is_compiled_in(arena: &Bump<Global>, tree: &Expr<Global>) -> Option<bool> {
 
 // The fewest bytes left in an arena in which the tree's program has room; it has room in each greater number too. The
 // tree's memory and the program's are of unlike allocators.
-fn least_room(rt: &impl Abort, alloc: Global, tree: &Expr<Global>) -> usize {
+fn least_room(rt: &impl Abort, alloc: Global, tree: Expr<Global>) -> usize {
     let mut least = ARENA;
     let mut before = None;
     for room in 0..ARENA {
-        let compiled = is_compiled_in(&arena_with(rt, alloc, room), tree);
+        let compiled = is_compiled_in(&arena_with(rt, alloc, room), &tree);
         assert_numbered(rt, follows(before, compiled), room as u64);
         if before.is_none() && compiled.is_some() {
             least = room;
@@ -75,13 +78,13 @@ fn alternatives(rt: &impl Abort, alloc: Global, count: u32) -> Expr<Global> {
 #[test]
 fn each_allocation_refused_in_turn(rt: HostRuntime) {
     // 30 words, and the lists of jumps stay within the frame.
-    let room = least_room(&rt, rt.alloc(), &Expr::Primitive(PORT_53));
+    let room = least_room(&rt, rt.alloc(), Expr::Primitive(PORT_53));
     assert_numbered(&rt, 240 <= room && room < 304, room as u64);
 }
 
 #[test]
 fn growing_list_of_jumps_refused_in_turn(rt: HostRuntime) {
     // 38 words, and a list of nine jumps of eight bytes each, one more than the frame holds.
-    let room = least_room(&rt, rt.alloc(), &alternatives(&rt, rt.alloc(), 9));
+    let room = least_room(&rt, rt.alloc(), alternatives(&rt, rt.alloc(), 9));
     assert_numbered(&rt, 376 <= room && room < ARENA, room as u64);
 }

@@ -104,6 +104,10 @@ fn is_so(alloc: Global, tree: Expr<Global>, asked: Asked) -> bool {
     is_answered(alloc, &tree, asked)
 }
 
+fn expect_so(rt: &impl Abort, alloc: Global, tree: Expr<Global>, asked: Asked) {
+    assert!(rt; is_answered(alloc, &tree, asked));
+}
+
 const CONNECTED: &str = "( ( not ip proto 17 or ip ) and port 53 )";
 
 const SUM: &str = "( 1 + ( 2 * len ) )";
@@ -121,25 +125,33 @@ const DIVIDED: &str = "udp[((1<<len)/3):4] = 97";
 fn printed_trees_and_their_measures(rt: HostRuntime) {
     let alloc = rt.alloc();
     let payload = byte_is(&rt, alloc, Protocol::Udp, 8, 0x61);
-    assert!(rt; is_so(alloc, payload, Asked::Text("udp[8:1] = 97", 3, 1, 27)));
-    assert!(rt;
-        is_so(
-            alloc,
-            connected(&rt, alloc),
-            Asked::Text(CONNECTED, 4, 0, 44)
-        )
+    expect_so(&rt, alloc, payload, Asked::Text("udp[8:1] = 97", 3, 1, 27));
+    expect_so(
+        &rt,
+        alloc,
+        connected(&rt, alloc),
+        Asked::Text(CONNECTED, 4, 0, 44),
     );
-    assert!(rt; is_so(alloc, computed(&rt, alloc), Asked::Text(COMPUTED, 4, 2, 27)));
-    assert!(rt;
-        is_so(
-            alloc,
-            short_udp(&rt, alloc),
-            Asked::Text(SHORT_UDP, 2, 0, 15)
-        )
+    expect_so(
+        &rt,
+        alloc,
+        computed(&rt, alloc),
+        Asked::Text(COMPUTED, 4, 2, 27),
+    );
+    expect_so(
+        &rt,
+        alloc,
+        short_udp(&rt, alloc),
+        Asked::Text(SHORT_UDP, 2, 0, 15),
     );
     let seven = third_is_seven(&rt, alloc);
-    assert!(rt; is_so(alloc, seven, Asked::Text(THIRD_IS_SEVEN, 4, 1, 20)));
-    assert!(rt; is_so(alloc, divided(&rt, alloc), Asked::Text(DIVIDED, 5, 1, 37)));
+    expect_so(&rt, alloc, seven, Asked::Text(THIRD_IS_SEVEN, 4, 1, 20));
+    expect_so(
+        &rt,
+        alloc,
+        divided(&rt, alloc),
+        Asked::Text(DIVIDED, 5, 1, 37),
+    );
 }
 
 fn is_printed_alone(alloc: Global, arith: Arith<Global>, text: &str) -> bool {
@@ -308,34 +320,33 @@ fn prefixes_of_k(rt: HostRuntime) {
         assert_numbered(&rt, is_accepted_and_negated(&rt, rt.alloc(), place), place);
     }
     let whole = compared(Arith::Length, Relation::Equal, 29);
-    assert!(rt; is_so(rt.alloc(), whole, Asked::Lengths(29, 29)));
+    expect_so(&rt, rt.alloc(), whole, Asked::Lengths(29, 29));
 }
 
 #[test]
 fn not_keeps_a_failed_load(rt: HostRuntime) {
     let alloc = rt.alloc();
-    assert!(rt;
-        is_so(
-            alloc,
-            not_a_load(&rt, alloc),
-            Asked::Truth(0, 0x45, Truth::Fails)
-        )
+    expect_so(
+        &rt,
+        alloc,
+        not_a_load(&rt, alloc),
+        Asked::Truth(0, 0x45, Truth::Fails),
     );
-    assert!(rt;
-        is_so(
-            alloc,
-            not_a_load(&rt, alloc),
-            Asked::Truth(9, 6, Truth::Yes)
-        )
+    expect_so(
+        &rt,
+        alloc,
+        not_a_load(&rt, alloc),
+        Asked::Truth(9, 6, Truth::Yes),
     );
 }
 
 #[test]
 fn and_and_or_bind_alike(rt: HostRuntime) {
     let alloc = rt.alloc();
-    let tree = udp_or_ip_and_port_53(&rt, alloc);
-    assert!(rt; is_answered(alloc, &tree, Asked::Truth(0, 0x45, Truth::Yes)));
-    assert!(rt; is_answered(alloc, &tree, Asked::Truth(23, 99, Truth::No)));
+    let yes = Asked::Truth(0, 0x45, Truth::Yes);
+    expect_so(&rt, alloc, udp_or_ip_and_port_53(&rt, alloc), yes);
+    let no = Asked::Truth(23, 99, Truth::No);
+    expect_so(&rt, alloc, udp_or_ip_and_port_53(&rt, alloc), no);
 }
 
 fn primitive_is_yes(alloc: Global, primitive: Primitive) -> bool {
@@ -352,13 +363,12 @@ fn length_bounds_and_payload_byte(rt: HostRuntime) {
     assert!(rt; primitive_is_yes(alloc, Primitive::AtMost(29)));
     assert!(rt; primitive_is_yes(alloc, Primitive::AtLeast(29)));
     let payload = byte_is(&rt, alloc, Protocol::Udp, 8, 0x61);
-    assert!(rt; is_so(alloc, payload, Asked::Truth(0, 0x45, Truth::Yes)));
-    assert!(rt;
-        is_so(
-            alloc,
-            load_or_ip(&rt, alloc),
-            Asked::Truth(0, 0x45, Truth::Fails)
-        )
+    expect_so(&rt, alloc, payload, Asked::Truth(0, 0x45, Truth::Yes));
+    expect_so(
+        &rt,
+        alloc,
+        load_or_ip(&rt, alloc),
+        Asked::Truth(0, 0x45, Truth::Fails),
     );
 }
 

@@ -40,15 +40,19 @@ fn is_refused_in_turn(rt: &impl Abort, alloc: Global, made: Made, text: &str) {
     assert!(rt; before.is_some());
 }
 
-fn is_refused_for(rt: &impl Abort, alloc: Global, tree: &Expr<Global>, text: &str) {
-    is_refused_in_turn(rt, alloc, Made::Copy(tree), text);
-    is_refused_in_turn(rt, alloc, Made::Text(tree), text);
+fn is_refused_for(rt: &impl Abort, alloc: Global, tree: Expr<Global>, text: &str) {
+    is_refused_in_turn(rt, alloc, Made::Copy(&tree), text);
+    is_refused_in_turn(rt, alloc, Made::Text(&tree), text);
+}
+
+fn is_arith_refused(rt: &impl Abort, alloc: Global, arith: Arith<Global>, text: &str) {
+    is_refused_in_turn(rt, alloc, Made::ArithText(&arith), text);
 }
 
 #[test]
 fn each_allocation_refused_in_turn(rt: HostRuntime) {
     let alloc = rt.alloc();
-    is_refused_for(&rt, alloc, &connected(&rt, alloc), CONNECTED);
-    is_refused_for(&rt, alloc, &computed(&rt, alloc), COMPUTED);
-    is_refused_in_turn(&rt, alloc, Made::ArithText(&sum(&rt, alloc)), SUM);
+    is_refused_for(&rt, alloc, connected(&rt, alloc), CONNECTED);
+    is_refused_for(&rt, alloc, computed(&rt, alloc), COMPUTED);
+    is_arith_refused(&rt, alloc, sum(&rt, alloc), SUM);
 }
