@@ -40,9 +40,13 @@ pub fn new_tally(rt: &impl Abort, alloc: Global) -> (Tally, Counter) {
     (tally, counters.pop().expect(rt, "a tally has counters"))
 }
 
-pub fn totals(tally: &mut Tally) -> [u64; KINDS] {
+fn totals(tally: &mut Tally) -> [u64; KINDS] {
     let Totals { counts } = tally.totals();
     counts
+}
+
+pub fn has_totals(rt: &impl Abort, tally: &mut Tally, counts: &[u64; KINDS]) {
+    assert!(rt; totals(tally) == *counts);
 }
 
 // A worker, and a tally with a counter.
@@ -102,8 +106,8 @@ fn judges_all_four(
 ) {
     let done = batch_of(bench, source, sends, limit);
     assert!(rt; done == judged(4, more));
-    assert!(rt; totals(&mut bench.tally) == [1, 1, 0, 0, 2, 0, 0]);
-    assert!(rt; sends.to(0) == Some(socket(3)) && sends.to(1) == Some(socket(3)));
+    has_totals(rt, &mut bench.tally, &[1, 1, 0, 0, 2, 0, 0]);
+    assert!(rt; (sends.to(0), sends.to(1)) == (Some(socket(3)), Some(socket(3))));
     assert!(rt; (sends.count(), sends.bytes().len()) == (2, 58));
 }
 
@@ -177,7 +181,7 @@ fn first_send_fails(
     outbox: &mut FailsFirst,
 ) {
     assert!(rt; batch_of(bench, source, outbox, 4) == judged(4, true));
-    assert!(rt; totals(&mut bench.tally) == [1, 1, 0, 0, 2, 1, 0]);
+    has_totals(rt, &mut bench.tally, &[1, 1, 0, 0, 2, 1, 0]);
     assert!(rt; outbox.sends.count() == 1);
 }
 
@@ -202,7 +206,7 @@ fn third_receive_fails(
     let at_failure = totals(&mut bench.tally);
     assert!(rt; batch_of(bench, source, sends, 10) == judged(2, false));
     assert!(rt; at_failure == [0, 0, 0, 0, 2, 0, 1]);
-    assert!(rt; totals(&mut bench.tally) == [1, 1, 0, 0, 2, 0, 1]);
+    has_totals(rt, &mut bench.tally, &[1, 1, 0, 0, 2, 0, 1]);
 }
 
 #[test]

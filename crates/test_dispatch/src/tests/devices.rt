@@ -93,6 +93,11 @@ pub fn push(rt: &impl Abort, alloc: Global, datagrams: &mut Datagrams, bytes: &[
     datagrams.push(datagram).expect(rt, "one datagram more");
 }
 
+// The next datagram has this length; none is at the end.
+fn next_is(rt: &impl Abort, datagrams: &mut Datagrams, buf: &mut [u8], len: Option<usize>) {
+    assert!(rt; datagrams.next(buf) == Ok(len));
+}
+
 #[test]
 fn datagrams_come_in_order_and_cut(rt: HostRuntime) {
     let mut datagrams = Datagrams::new(rt.alloc());
@@ -100,10 +105,12 @@ fn datagrams_come_in_order_and_cut(rt: HostRuntime) {
     push(&rt, rt.alloc(), &mut datagrams, &[]);
     push(&rt, rt.alloc(), &mut datagrams, &[3, 4, 5, 6]);
     let mut buf = [0; 3];
-    assert!(rt; datagrams.next(&mut buf) == Ok(Some(2)) && buf == [1, 2, 0]);
-    assert!(rt; datagrams.next(&mut buf) == Ok(Some(0)));
-    assert!(rt; datagrams.next(&mut buf) == Ok(Some(3)) && buf == [3, 4, 5]);
-    assert!(rt; datagrams.next(&mut buf) == Ok(None));
+    next_is(&rt, &mut datagrams, &mut buf, Some(2));
+    assert!(rt; buf == [1, 2, 0]);
+    next_is(&rt, &mut datagrams, &mut buf, Some(0));
+    next_is(&rt, &mut datagrams, &mut buf, Some(3));
+    assert!(rt; buf == [3, 4, 5]);
+    next_is(&rt, &mut datagrams, &mut buf, None);
 }
 
 /// Room for `count` sends, and for `bytes` bytes in all of them.
@@ -111,18 +118,20 @@ pub fn sends(rt: &impl Abort, alloc: Global, count: usize, bytes: usize) -> Send
     Sends::with_room(alloc, count, bytes).expect(rt, "room for sends")
 }
 
+// A send of these bytes fails or not.
+fn sends_so(rt: &impl Abort, sends: &mut Sends, bytes: &[u8], sent: Result<(), Failed>) {
+    assert!(rt; sends.send(PORT_53, bytes) == sent);
+}
+
 #[test]
 fn sends_past_the_room_fail(rt: HostRuntime) {
     let mut few = sends(&rt, rt.alloc(), 1, 9);
-    let sent = (few.send(PORT_53, &[1, 2]), few.send(PORT_53, &[3]));
-    assert!(rt; sent == (Ok(()), Err(Failed)));
+    sends_so(&rt, &mut few, &[1, 2], Ok(()));
+    sends_so(&rt, &mut few, &[3], Err(Failed));
     assert!(rt; (few.count(), few.to(0), few.to(1)) == (1, Some(PORT_53), None));
     let mut short = sends(&rt, rt.alloc(), 9, 3);
-    let sent = (
-        short.send(PORT_53, &[1, 2]),
-        short.send(PORT_53, &[3, 4]),
-        short.send(PORT_53, &[5]),
-    );
-    assert!(rt; sent == (Ok(()), Err(Failed), Ok(())));
+    sends_so(&rt, &mut short, &[1, 2], Ok(()));
+    sends_so(&rt, &mut short, &[3, 4], Err(Failed));
+    sends_so(&rt, &mut short, &[5], Ok(()));
     assert!(rt; short.bytes() == [1, 2, 5].as_slice());
 }

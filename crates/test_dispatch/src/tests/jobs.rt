@@ -1,6 +1,6 @@
 //! A job of batches of one datagram, over a source that fails once.
 
-use super::batches::{failing_after, new_tally, new_worker, totals, two_sends};
+use super::batches::{failing_after, has_totals, new_tally, new_worker, two_sends};
 use dispatch::{Gate, Job, finish};
 use std::alloc::Global;
 use std::cell::Cell;
@@ -43,6 +43,12 @@ impl Gate for Expected {
     }
 }
 
+// Six batches started and ended, this one last, and no other.
+fn ended(rt: &impl Abort, gate: &Expected, last: u64) {
+    assert!(rt; (gate.started.get(), gate.ended.get(), gate.wrong.get()) == (6, 6, 0));
+    assert!(rt; gate.next.get() == last.wrapping_add(3));
+}
+
 // Two batches of a datagram, one that fails to receive, two of a datagram, and one at the end.
 fn runs_to_its_end(rt: &(impl Wait + Abort), alloc: Global, first: u64, last: u64) {
     let (mut tally, counter) = new_tally(rt, alloc);
@@ -62,9 +68,8 @@ fn runs_to_its_end(rt: &(impl Wait + Abort), alloc: Global, first: u64, last: u6
         wrong: Cell::new(0),
     };
     let done = finish(rt, &gate, (first, 3), job);
-    assert!(rt; (gate.started.get(), gate.ended.get(), gate.wrong.get()) == (6, 6, 0));
-    assert!(rt; gate.next.get() == last.wrapping_add(3));
-    assert!(rt; totals(&mut tally) == [1, 1, 0, 0, 2, 0, 1]);
+    ended(rt, &gate, last);
+    has_totals(rt, &mut tally, &[1, 1, 0, 0, 2, 0, 1]);
     assert!(rt; done.outbox.count() == 2);
 }
 

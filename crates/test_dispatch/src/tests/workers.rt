@@ -2,7 +2,7 @@
 
 ghost use Rattle.std.specs.Prelude.{◌≡◌, ◌≤◌};
 
-use super::batches::{four_datagrams, one_datagram, totals, two_sends};
+use super::batches::{four_datagrams, has_totals, one_datagram, two_sends};
 use super::configurations::{three_members, workers_of};
 use dispatch::{Counter, Datagrams, Done, Gate, Job, Sends, Tally, run_workers};
 use read_section::Worker;
@@ -55,7 +55,7 @@ fn two_jobs(
 // Each of the two jobs sent twice, and has its buffer still.
 fn are_both_done(rt: &impl Abort, tally: &mut Tally, dones: &[Done<Datagrams, Sends>]) {
     assert!(rt; dones.len() == 2);
-    assert!(rt; totals(tally) == [2, 2, 0, 0, 4, 0, 0]);
+    has_totals(rt, tally, &[2, 2, 0, 0, 4, 0, 0]);
     for done in dones {
         assert!(rt; (done.outbox.count(), done.buffer.len()) == (2, 64));
     }
@@ -146,7 +146,7 @@ fn two_jobs_number_their_batches(rt: HostRuntime) {
     };
     let dones = run_workers(&rt, rt.alloc(), jobs, &numbers, || {}).expect(&rt, "both jobs run");
     assert!(rt; dones.len() == 2);
-    assert!(rt; totals(&mut tally) == [1, 1, 0, 0, 3, 0, 0]);
+    has_totals(&rt, &mut tally, &[1, 1, 0, 0, 3, 0, 0]);
     assert!(rt; numbers.started.into_inner() == 0x10_1011_1110);
     assert!(rt; numbers.ended.into_inner() == 0x10_1011_1110);
 }
