@@ -243,13 +243,24 @@ static STEPS: [(Act, u64); 10] = [
     (Act::Remove(53), 2),
 ];
 
-fn applied_in<'a>(
+// Applies a command that makes this charge; returns whether memory sufficed.
+fn applies<'a>(
     rt: &impl Abort,
-    alloc: Global,
-    config: &Config<&'a LocalHeap>,
-    act: Act,
-) -> Result<Config<&'a LocalHeap>, Refusal> {
-    config.apply(&command(rt, alloc, act))
+    config: &mut Config<&'a LocalHeap>,
+    command: &Command,
+    charge: u64,
+) -> bool {
+    let before = config.charge();
+    match config.apply(command) {
+        Ok(next) => *config = next,
+        Err(refusal) => {
+            // Only memory is refused.
+            assert!(rt; refusal == Refusal::OutOfMemory && config.charge() == before);
+            return false;
+        }
+    }
+    assert!(rt; config.charge() == charge);
+    true
 }
 
 // Applies the commands until one is refused; returns the number that were applied.
@@ -257,16 +268,9 @@ fn applied_within(rt: &impl Abort, alloc: Global, heap: &LocalHeap) -> usize {
     let mut config = Config::new(heap);
     let mut steps = 0usize;
     for (act, charge) in &STEPS {
-        let before = config.charge();
-        match applied_in(rt, alloc, &config, *act) {
-            Ok(next) => config = next,
-            Err(refusal) => {
-                // Only memory is refused.
-                assert!(rt; refusal == Refusal::OutOfMemory && config.charge() == before);
-                break;
-            }
+        if !applies(rt, &mut config, &command(rt, alloc, *act), *charge) {
+            break;
         }
-        assert!(rt; config.charge() == *charge);
         steps = steps.saturating_add(1);
     }
     steps

@@ -36,11 +36,10 @@ fn returns(program: &Program<Global>, packet: &[u8], value: u32) -> bool {
     run(&mut words, 0, count, packet).value == value
 }
 
-fn reads_back(rt: &impl Abort, alloc: Global, program: &Program<Global>) -> bool {
-    match table_of_program(alloc, program.words()).expect(rt, "memory") {
-        Some((HashBy::Both, read)) => read.members() == MEMBERS.as_slice(),
-        _ => false,
-    }
+fn reads_back(rt: &impl Abort, alloc: Global, program: &Program<Global>) {
+    let read = table_of_program(alloc, program.words()).expect(rt, "memory");
+    let (by, buckets) = read.expect(rt, "the program is a selector");
+    assert!(rt; by == HashBy::Both && buckets.members() == MEMBERS.as_slice());
 }
 
 // The table of 16 buckets that the three share.
@@ -59,7 +58,7 @@ fn spreads_by_weight(rt: HostRuntime) {
     assert!(rt; buckets.members() == MEMBERS.as_slice());
     let program = selector(rt.alloc(), HashBy::Both, &buckets).expect(&rt, "memory");
     assert!(rt; returns(&program, PACKET.as_slice(), 2));
-    assert!(rt; reads_back(&rt, rt.alloc(), &program));
+    reads_back(&rt, rt.alloc(), &program);
 }
 
 #[test]

@@ -66,26 +66,28 @@ fn clone_keeps_words_and_charge(rt: HostRuntime) {
     assert!(rt; is_clone(&clone, &program));
 }
 
-// Whether a clone in a heap of this many bytes is one; none if it has no room.
+// A clone in a heap of this many bytes is one, or has no room there.
 fn clones_in(
     rt: &impl Abort,
     alloc: Global,
     program: &Program<Global>,
     size: usize,
-) -> Option<bool> {
+    is_one: Option<bool>,
+) {
     let heap = LocalHeap::new(alloc, size).expect(rt, "memory");
-    match program.clone_in(&heap) {
+    let made = match program.clone_in(&heap) {
         Ok(clone) => Some(is_clone(&clone, program)),
         Err(_) => None,
-    }
+    };
+    assert!(rt; made == is_one, "a heap of {size} bytes");
 }
 
 #[test]
 fn clone_under_each_refused_growth(rt: HostRuntime) {
     let program = charged(&rt, rt.alloc());
     // A clone takes memory once, 792 bytes of it.
-    assert!(rt; clones_in(&rt, rt.alloc(), &program, 64) == None);
-    assert!(rt; clones_in(&rt, rt.alloc(), &program, 784) == None);
-    assert!(rt; clones_in(&rt, rt.alloc(), &program, 1024) == Some(true));
+    clones_in(&rt, rt.alloc(), &program, 64, None);
+    clones_in(&rt, rt.alloc(), &program, 784, None);
+    clones_in(&rt, rt.alloc(), &program, 1024, Some(true));
     assert!(rt; program.charge() == 100);
 }
