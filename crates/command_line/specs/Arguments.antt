@@ -1,5 +1,5 @@
 -- The commands and their arguments, as the contracts of `clap` see them.
-use Rattle.std.specs.Prelude.{◌-◌, ◌^◌, [], Some, codes, true}
+use Rattle.std.specs.Prelude.{◌-◌, ◌^◌, ℕ, [], Some, codes, true}
 use Rattle.clap.specs.Words.{App, Rule, Shape, Text, new_app, new_rule, with_rule, with_subcommand}
 use Rattle.clap.specs.declared.builder.action.ArgAction.TheVariants.{Append, SetTrue}
 use Rattle.clap.specs.declared.builder.value_parser.ValueParser.TheVariants.{Unsigned}
@@ -16,6 +16,10 @@ named_argument id = record (new_rule id) { long = Some id; value_names = 1 }
 
 abbrev pub required_named_argument : Text → Rule
 required_named_argument id = record (named_argument id) { required = true }
+
+-- one by name, which is a number from 1 on
+abbrev pub number_argument : Text → ℕ → Rule
+number_argument id most = record (named_argument id) { parser = Some (Unsigned 1 most) }
 
 -- a flag
 abbrev pub flag : Text → Rule
@@ -76,7 +80,7 @@ replay_line = with_rule (with_rule (new_app (codes "replay")) (flag (codes "summ
 
 -- `--unwrap PORT`, from 1 on
 abbrev pub unwrap_argument : Rule
-unwrap_argument = record (named_argument (codes "unwrap")) { parser = Some (Unsigned 1 MAX_PORT) }
+unwrap_argument = number_argument (codes "unwrap") MAX_PORT
 
 -- `packets`, with a port or none
 abbrev pub packets_line : App
@@ -88,7 +92,7 @@ workers_argument = record (required_named_argument (codes "workers")) { parser =
 
 -- `--datagrams D`, from 1 on
 abbrev pub datagrams_argument : Rule
-datagrams_argument = record (named_argument (codes "datagrams")) { parser = Some (Unsigned 1 MAX_DATAGRAMS) }
+datagrams_argument = number_argument (codes "datagrams") MAX_DATAGRAMS
 
 -- `flood --workers N`, with a number of datagrams or none
 abbrev pub flood_line : App
@@ -96,7 +100,7 @@ flood_line = with_rule (with_rule (new_app (codes "flood")) workers_argument) da
 
 -- `--receive-buffer BYTES`, from 1 on
 abbrev pub receive_buffer_argument : Rule
-receive_buffer_argument = record (named_argument (codes "receive-buffer")) { parser = Some (Unsigned 1 MAX_RECEIVE_BUFFER) }
+receive_buffer_argument = number_argument (codes "receive-buffer") MAX_RECEIVE_BUFFER
 
 -- `serve --front A --control A --workers N`, with a rules file or none, its flag or not, a way to receive or none, and a receive buffer or none
 abbrev pub serve_line : App
@@ -115,7 +119,7 @@ serve_line =
 
 -- `--timeout SECONDS`, from 1 on
 abbrev pub timeout_argument : Rule
-timeout_argument = record (named_argument (codes "timeout")) { parser = Some (Unsigned 1 MAX_TIMEOUT) }
+timeout_argument = number_argument (codes "timeout") MAX_TIMEOUT
 
 -- `tell --control A`, a timeout or none, its flag or not, and lines
 abbrev pub tell_line : App
@@ -153,11 +157,11 @@ metrics_line =
 
 -- `--interval SECONDS`, from 1 on
 abbrev pub interval_argument : Rule
-interval_argument = record (named_argument (codes "interval")) { parser = Some (Unsigned 1 MAX_INTERVAL) }
+interval_argument = number_argument (codes "interval") MAX_INTERVAL
 
 -- `--count N`, from 1 on
 abbrev pub count_argument : Rule
-count_argument = record (named_argument (codes "count")) { parser = Some (Unsigned 1 (2 ^ 64 - 1)) }
+count_argument = number_argument (codes "count") (2 ^ 64 - 1)
 
 -- `top --control A`, with an interval, a count and a timeout, or without
 abbrev pub top_line : App

@@ -7,12 +7,11 @@ ghost use Rattle.command_line.specs.Arguments.{check_line, command_line, compile
 ghost use Rattle.command_line.specs.body.Half.{with_queries, with_rules, with_workers};
 
 use crate::arguments::{
-    address_argument, control_argument, count_argument, datagrams_argument, expression_argument,
-    flag_argument, format_argument, front_argument, interval_argument, key_argument,
-    lines_argument, packet_argument, payload_argument, positional_argument, receive_argument,
-    receive_buffer_argument, rules_argument, shares_argument, text_argument, timeout_argument,
-    unwrap_argument, value_argument, words_argument, workers_argument,
+    flag_argument, lines_argument, named_argument, number_argument, positional_argument,
+    timeout_argument, value_argument, words_argument, workers_argument,
 };
+use crate::command::{MAX_DATAGRAMS, MAX_INTERVAL, MAX_PORT};
+use crate::receive::MAX_RECEIVE_BUFFER;
 use crate::{bucket_help, help, packet_help};
 use clap::{Arg, Command};
 use std::alloc::{AllocError, Global};
@@ -43,7 +42,7 @@ fn check_command<'a>(alloc: Global) -> Result<Command<'a>, AllocError>
     ensures app { IfOk result (λ command. app_of command ≡ check_line) }
     ensures local { IfOk result (λ command. (out-Command command).has_globals ≡ false) }
 {
-    let format = format_argument(alloc, help::INPUT_FORMAT);
+    let format = named_argument(alloc, "format", "NAME", help::INPUT_FORMAT);
     let command = plain_command(alloc, "check", help::CHECK, help::CHECK_MORE);
     with_argument(Ok(command), format)
 }
@@ -55,37 +54,45 @@ fn compile_command<'a>(alloc: Global) -> Result<Command<'a>, AllocError>
     let expression = positional_argument(alloc, "EXPR", help::COMPILE_EXPRESSION);
     let command = plain_command(alloc, "compile", help::COMPILE, help::COMPILE_MORE);
     let command = with_argument(Ok(command), expression);
-    with_argument(command, format_argument(alloc, help::OUTPUT_FORMAT))
+    let format = named_argument(alloc, "format", "NAME", help::OUTPUT_FORMAT);
+    with_argument(command, format)
 }
 
 fn run_command<'a>(alloc: Global) -> Result<Command<'a>, AllocError>
     ensures app { IfOk result (λ command. app_of command ≡ run_line) }
     ensures local { IfOk result (λ command. (out-Command command).has_globals ≡ false) }
 {
+    let packet = value_argument(alloc, "packet", "HEX", help::RUN_PACKET);
     let command = plain_command(alloc, "run", help::RUN, help::RUN_MORE);
-    let command = with_argument(Ok(command), packet_argument(alloc));
-    let command = with_argument(command, expression_argument(alloc));
-    with_argument(command, format_argument(alloc, help::INPUT_FORMAT))
+    let command = with_argument(Ok(command), packet);
+    let expression = named_argument(alloc, "expr", "TEXT", help::RUN_EXPRESSION);
+    let command = with_argument(command, expression);
+    let format = named_argument(alloc, "format", "NAME", help::INPUT_FORMAT);
+    with_argument(command, format)
 }
 
 fn pack_command<'a>(alloc: Global) -> Result<Command<'a>, AllocError>
     ensures app { IfOk result (λ command. app_of command ≡ pack_line) }
     ensures local { IfOk result (λ command. (out-Command command).has_globals ≡ false) }
 {
-    let from = address_argument(alloc, "from", packet_help::PACK_FROM);
+    let from = value_argument(alloc, "from", "A", packet_help::PACK_FROM);
     let command = plain_command(alloc, "pack", packet_help::PACK, packet_help::PACK_MORE);
     let command = with_argument(Ok(command), from);
-    let command = with_argument(command, key_argument(alloc));
-    let command = with_argument(command, payload_argument(alloc));
-    with_argument(command, text_argument(alloc))
+    let to = value_argument(alloc, "to", "KEY", packet_help::PACK_TO);
+    let command = with_argument(command, to);
+    let payload = named_argument(alloc, "payload", "HEX", packet_help::PACK_PAYLOAD);
+    let command = with_argument(command, payload);
+    let text = named_argument(alloc, "text", "TEXT", packet_help::PACK_TEXT);
+    with_argument(command, text)
 }
 
 fn explain_command<'a>(alloc: Global) -> Result<Command<'a>, AllocError>
     ensures app { IfOk result (λ command. app_of command ≡ explain_line) }
     ensures local { IfOk result (λ command. (out-Command command).has_globals ≡ false) }
 {
+    let words = words_argument(alloc, "WORD", help::EXPLAIN_WORDS);
     let command = plain_command(alloc, "explain", help::EXPLAIN, help::EXPLAIN_MORE);
-    with_argument(Ok(command), words_argument(alloc))
+    with_argument(Ok(command), words)
 }
 
 pub(crate) fn spread_command<'a>(alloc: Global) -> Result<Command<'a>, AllocError>
@@ -94,11 +101,12 @@ pub(crate) fn spread_command<'a>(alloc: Global) -> Result<Command<'a>, AllocErro
 {
     let (about, more) = (bucket_help::SPREAD, bucket_help::SPREAD_MORE);
     let buckets = value_argument(alloc, "buckets", "B", bucket_help::SPREAD_BUCKETS);
-    let by = value_argument(alloc, "by", "FIELDS", bucket_help::SPREAD_BY);
     let command = plain_command(alloc, "spread", about, more);
     let command = with_argument(Ok(command), buckets);
+    let by = value_argument(alloc, "by", "FIELDS", bucket_help::SPREAD_BY);
     let command = with_argument(command, by);
-    with_argument(command, shares_argument(alloc))
+    let shares = words_argument(alloc, "ID=WEIGHT", bucket_help::SPREAD_SHARES);
+    with_argument(command, shares)
 }
 
 fn replay_command<'a>(alloc: Global) -> Result<Command<'a>, AllocError>
@@ -106,9 +114,9 @@ fn replay_command<'a>(alloc: Global) -> Result<Command<'a>, AllocError>
     ensures local { IfOk result (λ command. (out-Command command).has_globals ≡ false) }
 {
     let summary = flag_argument(alloc, "summary", help::REPLAY_SUMMARY);
-    let quiet = flag_argument(alloc, "quiet", help::REPLAY_QUIET);
     let command = plain_command(alloc, "replay", help::REPLAY, help::REPLAY_MORE);
     let command = with_argument(Ok(command), summary);
+    let quiet = flag_argument(alloc, "quiet", help::REPLAY_QUIET);
     with_argument(command, quiet)
 }
 
@@ -116,7 +124,13 @@ fn packets_command<'a>(alloc: Global) -> Result<Command<'a>, AllocError>
     ensures app { IfOk result (λ command. app_of command ≡ packets_line) }
     ensures local { IfOk result (λ command. (out-Command command).has_globals ≡ false) }
 {
-    let unwrap = unwrap_argument(alloc);
+    let unwrap = number_argument(
+        alloc,
+        "unwrap",
+        "PORT",
+        MAX_PORT,
+        packet_help::PACKETS_UNWRAP,
+    );
     let command = plain_command(
         alloc,
         "packets",
@@ -133,35 +147,49 @@ fn flood_command<'a>(alloc: Global) -> Result<Command<'a>, AllocError>
     let workers = workers_argument(alloc, help::FLOOD_WORKERS);
     let command = plain_command(alloc, "flood", help::FLOOD, help::FLOOD_MORE);
     let command = with_argument(Ok(command), workers);
-    with_argument(command, datagrams_argument(alloc))
+    let most = MAX_DATAGRAMS;
+    let datagrams = number_argument(alloc, "datagrams", "D", most, help::FLOOD_DATAGRAMS);
+    with_argument(command, datagrams)
 }
 
 pub(crate) fn serve_command<'a>(alloc: Global) -> Result<Command<'a>, AllocError>
     ensures app { IfOk result (λ command. app_of command ≡ serve_line) }
     ensures local { IfOk result (λ command. (out-Command command).has_globals ≡ false) }
 {
-    let front = address_argument(alloc, "front", help::SERVE_FRONT);
-    let control = address_argument(alloc, "control", help::SERVE_CONTROL);
+    let front = value_argument(alloc, "front", "A", help::SERVE_FRONT);
     let command = plain_command(alloc, "serve", help::SERVE, help::SERVE_MORE);
     let command = with_argument(Ok(command), front);
+    let control = value_argument(alloc, "control", "A", help::SERVE_CONTROL);
     let command = with_argument(command, control);
-    let log = flag_argument(alloc, "log", help::SERVE_LOG);
     let command = with_argument(command, workers_argument(alloc, help::SERVE_WORKERS));
-    let command = with_argument(command, rules_argument(alloc));
+    let rules = named_argument(alloc, "rules", "FILE", help::SERVE_RULES);
+    let command = with_argument(command, rules);
+    let log = flag_argument(alloc, "log", help::SERVE_LOG);
     let command = with_argument(command, log);
-    let command = with_argument(command, receive_argument(alloc));
-    with_argument(command, receive_buffer_argument(alloc))
+    // `clap` accepts any way here: a parser with a list of names has a reference, which no definition can name. `read_words` refuses a
+    // text that names no way.
+    let receive = named_argument(alloc, "receive", "WAY", help::SERVE_RECEIVE);
+    let command = with_argument(command, receive);
+    let buffer = number_argument(
+        alloc,
+        "receive-buffer",
+        "BYTES",
+        MAX_RECEIVE_BUFFER as u64,
+        help::SERVE_RECEIVE_BUFFER,
+    );
+    with_argument(command, buffer)
 }
 
 fn tell_command<'a>(alloc: Global) -> Result<Command<'a>, AllocError>
     ensures app { IfOk result (λ command. app_of command ≡ tell_line) }
     ensures local { IfOk result (λ command. (out-Command command).has_globals ≡ false) }
 {
-    let control = address_argument(alloc, "control", help::TELL_CONTROL);
+    let control = value_argument(alloc, "control", "A", help::TELL_CONTROL);
     let command = plain_command(alloc, "tell", help::TELL, help::TELL_MORE);
     let command = with_argument(Ok(command), control);
+    let timeout = timeout_argument(alloc);
+    let command = with_argument(command, timeout);
     let all = flag_argument(alloc, "all", help::TELL_ALL);
-    let command = with_argument(command, timeout_argument(alloc));
     let command = with_argument(command, all);
     with_argument(command, lines_argument(alloc))
 }
@@ -170,24 +198,27 @@ fn rules_command<'a>(alloc: Global) -> Result<Command<'a>, AllocError>
     ensures app { IfOk result (λ command. app_of command ≡ rules_line) }
     ensures local { IfOk result (λ command. (out-Command command).has_globals ≡ false) }
 {
-    let control = address_argument(alloc, "control", help::TELL_CONTROL);
+    let control = value_argument(alloc, "control", "A", help::TELL_CONTROL);
     let command = plain_command(alloc, "rules", help::RULES, help::RULES_MORE);
     let command = with_argument(Ok(command), control);
-    with_argument(command, timeout_argument(alloc))
+    let timeout = timeout_argument(alloc);
+    with_argument(command, timeout)
 }
 
 fn load_command<'a>(alloc: Global) -> Result<Command<'a>, AllocError>
     ensures app { IfOk result (λ command. app_of command ≡ load_line) }
     ensures local { IfOk result (λ command. (out-Command command).has_globals ≡ false) }
 {
-    let check = flag_argument(alloc, "check", help::LOAD_CHECK);
-    let diff = flag_argument(alloc, "diff", help::LOAD_DIFF);
-    let file = positional_argument(alloc, "FILE", help::LOAD_FILE);
+    let control = named_argument(alloc, "control", "A", help::LOAD_CONTROL);
     let command = plain_command(alloc, "load", help::LOAD, help::LOAD_MORE);
-    let command = with_argument(Ok(command), control_argument(alloc));
-    let command = with_argument(command, timeout_argument(alloc));
+    let command = with_argument(Ok(command), control);
+    let timeout = timeout_argument(alloc);
+    let command = with_argument(command, timeout);
+    let check = flag_argument(alloc, "check", help::LOAD_CHECK);
     let command = with_argument(command, check);
+    let diff = flag_argument(alloc, "diff", help::LOAD_DIFF);
     let command = with_argument(command, diff);
+    let file = positional_argument(alloc, "FILE", help::LOAD_FILE);
     with_argument(command, file)
 }
 
@@ -196,13 +227,14 @@ fn drain_command<'a>(alloc: Global) -> Result<Command<'a>, AllocError>
     ensures local { IfOk result (λ command. (out-Command command).has_globals ≡ false) }
 {
     let (about, more) = (bucket_help::DRAIN, bucket_help::DRAIN_MORE);
-    let control = address_argument(alloc, "control", help::TELL_CONTROL);
-    let key = positional_argument(alloc, "KEY", bucket_help::DRAIN_KEY);
-    let member = positional_argument(alloc, "ID", bucket_help::DRAIN_MEMBER);
+    let control = value_argument(alloc, "control", "A", help::TELL_CONTROL);
     let command = plain_command(alloc, "drain", about, more);
     let command = with_argument(Ok(command), control);
-    let command = with_argument(command, timeout_argument(alloc));
+    let timeout = timeout_argument(alloc);
+    let command = with_argument(command, timeout);
+    let key = positional_argument(alloc, "KEY", bucket_help::DRAIN_KEY);
     let command = with_argument(command, key);
+    let member = positional_argument(alloc, "ID", bucket_help::DRAIN_MEMBER);
     with_argument(command, member)
 }
 
@@ -210,23 +242,34 @@ fn metrics_command<'a>(alloc: Global) -> Result<Command<'a>, AllocError>
     ensures app { IfOk result (λ command. app_of command ≡ metrics_line) }
     ensures local { IfOk result (λ command. (out-Command command).has_globals ≡ false) }
 {
-    let control = address_argument(alloc, "control", help::TELL_CONTROL);
+    let control = value_argument(alloc, "control", "A", help::TELL_CONTROL);
     let command = plain_command(alloc, "metrics", help::METRICS, help::METRICS_MORE);
     let command = with_argument(Ok(command), control);
-    let command = with_argument(command, front_argument(alloc));
-    with_argument(command, timeout_argument(alloc))
+    let front = named_argument(alloc, "front", "A", help::METRICS_FRONT);
+    let command = with_argument(command, front);
+    let timeout = timeout_argument(alloc);
+    with_argument(command, timeout)
 }
 
 fn top_command<'a>(alloc: Global) -> Result<Command<'a>, AllocError>
     ensures app { IfOk result (λ command. app_of command ≡ top_line) }
     ensures local { IfOk result (λ command. (out-Command command).has_globals ≡ false) }
 {
-    let control = address_argument(alloc, "control", help::TELL_CONTROL);
+    let control = value_argument(alloc, "control", "A", help::TELL_CONTROL);
     let command = plain_command(alloc, "top", help::TOP, help::TOP_MORE);
     let command = with_argument(Ok(command), control);
-    let command = with_argument(command, interval_argument(alloc));
-    let command = with_argument(command, count_argument(alloc));
-    with_argument(command, timeout_argument(alloc))
+    let interval = number_argument(
+        alloc,
+        "interval",
+        "SECONDS",
+        MAX_INTERVAL,
+        help::TOP_INTERVAL,
+    );
+    let command = with_argument(command, interval);
+    let count = number_argument(alloc, "count", "N", u64::MAX, help::TOP_COUNT);
+    let command = with_argument(command, count);
+    let timeout = timeout_argument(alloc);
+    with_argument(command, timeout)
 }
 
 // The program before its commands.

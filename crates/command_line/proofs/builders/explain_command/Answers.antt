@@ -5,7 +5,7 @@ use Rattle.command_line.proofs.builders.explain_command.Goals as goal
 
 pub returns-clause-app : goal.returns-clause-app
 returns-clause-app c =
-    c.with_argument.ensures.app (new_app (codes "explain")) (some_number_of (codes "WORD")) c.plain_command-command.ensures.app c.words_argument.ensures.rule c.words_argument.ensures.local
+    c.with_argument.ensures.app (new_app (codes "explain")) (some_number_of (codes "WORD")) c.plain_command-command.ensures.app c.words_argument-words.ensures.rule c.words_argument-words.ensures.local
 
 pub returns-clause-local : goal.returns-clause-local
-returns-clause-local c = c.with_argument.ensures.local c.plain_command-command.ensures.local c.words_argument.ensures.local
+returns-clause-local c = c.with_argument.ensures.local c.plain_command-command.ensures.local c.words_argument-words.ensures.local

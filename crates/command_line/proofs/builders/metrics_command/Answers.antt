@@ -6,14 +6,14 @@ use Rattle.command_line.proofs.builders.metrics_command.Goals as goal
 pub returns-clause-app : goal.returns-clause-app
 returns-clause-app c =
     let start : App = new_app (codes "metrics") in
-    let made1 = c.with_argument-command.ensures.app start (required_named_argument (codes "control")) c.plain_command-command.ensures.app c.address_argument-control.ensures.rule c.address_argument-control.ensures.local in
+    let made1 = c.with_argument-command.ensures.app start (required_named_argument (codes "control")) c.plain_command-command.ensures.app c.value_argument-control.ensures.rule c.value_argument-control.ensures.local in
     let to1 : App = with_rule start (required_named_argument (codes "control")) in
-    let made2 = c.with_argument-command-2.ensures.app to1 (named_argument (codes "front")) made1 c.front_argument.ensures.rule c.front_argument.ensures.local in
+    let made2 = c.with_argument-command-2.ensures.app to1 (named_argument (codes "front")) made1 c.named_argument-front.ensures.rule c.named_argument-front.ensures.local in
     let to2 : App = with_rule to1 (named_argument (codes "front")) in
-    c.with_argument.ensures.app to2 timeout_argument made2 c.timeout_argument.ensures.rule c.timeout_argument.ensures.local
+    c.with_argument.ensures.app to2 timeout_argument made2 c.timeout_argument-timeout.ensures.rule c.timeout_argument-timeout.ensures.local
 
 pub returns-clause-local : goal.returns-clause-local
 returns-clause-local c =
-    let made1 = c.with_argument-command.ensures.local c.plain_command-command.ensures.local c.address_argument-control.ensures.local in
-    let made2 = c.with_argument-command-2.ensures.local made1 c.front_argument.ensures.local in
-    c.with_argument.ensures.local made2 c.timeout_argument.ensures.local
+    let made1 = c.with_argument-command.ensures.local c.plain_command-command.ensures.local c.value_argument-control.ensures.local in
+    let made2 = c.with_argument-command-2.ensures.local made1 c.named_argument-front.ensures.local in
+    c.with_argument.ensures.local made2 c.timeout_argument-timeout.ensures.local

@@ -6,14 +6,14 @@ use Rattle.command_line.proofs.builders.run_command.Goals as goal
 pub returns-clause-app : goal.returns-clause-app
 returns-clause-app c =
     let start : App = new_app (codes "run") in
-    let made1 = c.with_argument-command.ensures.app start (required_named_argument (codes "packet")) c.plain_command-command.ensures.app c.packet_argument.ensures.rule c.packet_argument.ensures.local in
+    let made1 = c.with_argument-command.ensures.app start (required_named_argument (codes "packet")) c.plain_command-command.ensures.app c.value_argument-packet.ensures.rule c.value_argument-packet.ensures.local in
     let to1 : App = with_rule start (required_named_argument (codes "packet")) in
-    let made2 = c.with_argument-command-2.ensures.app to1 (named_argument (codes "expr")) made1 c.expression_argument.ensures.rule c.expression_argument.ensures.local in
+    let made2 = c.with_argument-command-2.ensures.app to1 (named_argument (codes "expr")) made1 c.named_argument-expression.ensures.rule c.named_argument-expression.ensures.local in
     let to2 : App = with_rule to1 (named_argument (codes "expr")) in
-    c.with_argument.ensures.app to2 (named_argument (codes "format")) made2 c.format_argument.ensures.rule c.format_argument.ensures.local
+    c.with_argument.ensures.app to2 (named_argument (codes "format")) made2 c.named_argument-format.ensures.rule c.named_argument-format.ensures.local
 
 pub returns-clause-local : goal.returns-clause-local
 returns-clause-local c =
-    let made1 = c.with_argument-command.ensures.local c.plain_command-command.ensures.local c.packet_argument.ensures.local in
-    let made2 = c.with_argument-command-2.ensures.local made1 c.expression_argument.ensures.local in
-    c.with_argument.ensures.local made2 c.format_argument.ensures.local
+    let made1 = c.with_argument-command.ensures.local c.plain_command-command.ensures.local c.value_argument-packet.ensures.local in
+    let made2 = c.with_argument-command-2.ensures.local made1 c.named_argument-expression.ensures.local in
+    c.with_argument.ensures.local made2 c.named_argument-format.ensures.local

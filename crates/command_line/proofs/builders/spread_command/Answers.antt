@@ -10,10 +10,10 @@ returns-clause-app c =
     let to1 : App = with_rule start (required_named_argument (codes "buckets")) in
     let made2 = c.with_argument-command-2.ensures.app to1 (required_named_argument (codes "by")) made1 c.value_argument-by.ensures.rule c.value_argument-by.ensures.local in
     let to2 : App = with_rule to1 (required_named_argument (codes "by")) in
-    c.with_argument.ensures.app to2 (some_number_of (codes "ID=WEIGHT")) made2 c.shares_argument.ensures.rule c.shares_argument.ensures.local
+    c.with_argument.ensures.app to2 (some_number_of (codes "ID=WEIGHT")) made2 c.words_argument-shares.ensures.rule c.words_argument-shares.ensures.local
 
 pub returns-clause-local : goal.returns-clause-local
 returns-clause-local c =
     let made1 = c.with_argument-command.ensures.local c.plain_command-command.ensures.local c.value_argument-buckets.ensures.local in
     let made2 = c.with_argument-command-2.ensures.local made1 c.value_argument-by.ensures.local in
-    c.with_argument.ensures.local made2 c.shares_argument.ensures.local
+    c.with_argument.ensures.local made2 c.words_argument-shares.ensures.local

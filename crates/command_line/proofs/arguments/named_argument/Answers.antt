@@ -1,5 +1,5 @@
 use Rattle.std.proofs.Common.{rules}
-use Rattle.command_line.proofs.arguments.receive_buffer_argument.Goals as goal
+use Rattle.command_line.proofs.arguments.named_argument.Goals as goal
 
 pub returns-clause-local : goal.returns-clause-local
 returns-clause-local c = search rules
