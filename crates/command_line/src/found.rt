@@ -3,23 +3,23 @@
 ghost use Rattle.std.specs.Prelude.{◌≡◌, ◌≤◌, IfOk, IfSome, Some, codes, map, string_bytes};
 ghost use Rattle.std.specs.Option.{option_map};
 ghost use Rattle.clap.specs.Walk.{first_of};
-ghost use Rattle.clap.specs.Words.{FailsBy, found_of, kind_of, rows_of};
+ghost use Rattle.clap.specs.Words.{FailsBy, found_of, rows_of};
 ghost use Rattle.command_line.specs.CommandLine.{command_in, command_named, command_of, count_in, datagrams_in, drain_in, explain, faults_in, flood_in, format_in, interval_in, is_set, load_in, metrics_in, number_in, pack_in, packets_in, query_request, receive_buffer_in, receive_in, receive_named, request_of, returning, rules_in, run_or_judge, serve_in, spread_in, tell_in, timeout_in, top_in, unwrap_in, value_in, values_in, workers_in};
 
-use crate::builders::{program, serve_command, spread_command};
+use crate::builders::program;
 use crate::command::{
     MAX_DATAGRAMS, MAX_INTERVAL, MAX_PORT, MAX_TIMEOUT, Query, Returning, Subcommand, Waiting,
     Workers,
 };
 use crate::receive::{MAX_RECEIVE_BUFFER, ReceiveBuffer, ReceiveWay};
 use crate::shares;
-use clap::error::ErrorKind;
+use crate::value_fault::value_fault;
 use clap::{ArgMatches, Error};
 use std::alloc::{AllocError, Global};
 use versions::WORKERS;
 
 // The value of an argument, which a required one has.
-fn value_of<'a>(found: &ArgMatches<'a>, id: &str) -> &'a str
+pub(crate) fn value_of<'a>(found: &ArgMatches<'a>, id: &str) -> &'a str
     ensures { result.now ≡ value_in (rows_of (found_of found.now)) id.now }
 {
     found.get_str(id).unwrap_or("")
@@ -33,7 +33,7 @@ fn given<'a>(found: &ArgMatches<'a>, id: &str) -> Option<&'a str>
 }
 
 // The values of an argument that may have any number of them.
-fn values_of<'a>(
+pub(crate) fn values_of<'a>(
     alloc: Global,
     found: &ArgMatches<'a>,
     id: &str,
@@ -346,39 +346,6 @@ fn subcommand_of<'a>(
         "top" => Ok(top(found)),
         _ => Ok(None),
     }
-}
-
-// The fault of a text that names no way to receive.
-fn way_fault(alloc: Global, text: &str) -> Result<Error, AllocError>
-    ensures { IfOk result (λ fault. kind_of fault ≡ ErrorKind.InvalidValue) }
-{
-    let message = format!(in alloc;
-        "invalid value '{text}' for '--receive <WAY>'\n  [possible values: queued, direct]"
-    )?;
-    let mut command = serve_command(alloc)?.bin_name("dswitch serve")?;
-    command.error(ErrorKind::InvalidValue, message.as_str())
-}
-
-// The fault of a value of `spread`.
-fn spread_fault(alloc: Global, found: &ArgMatches) -> Result<Error, AllocError>
-    ensures { IfOk result (λ fault. kind_of fault ≡ ErrorKind.InvalidValue) }
-{
-    let words = values_of(alloc, found, "ID=WEIGHT")?;
-    let buckets = value_of(found, "buckets");
-    let by = value_of(found, "by");
-    let message = shares::fault_text(alloc, buckets, by, &words)?;
-    let mut command = spread_command(alloc)?.bin_name("dswitch spread")?;
-    command.error(ErrorKind::InvalidValue, message.as_str())
-}
-
-// The fault of a value that `clap` accepts, but that is invalid.
-fn value_fault(alloc: Global, name: &str, found: &ArgMatches) -> Result<Error, AllocError>
-    ensures { IfOk result (λ fault. kind_of fault ≡ ErrorKind.InvalidValue) }
-{
-    if name == "spread" {
-        return spread_fault(alloc, found);
-    }
-    way_fault(alloc, value_of(found, "receive"))
 }
 
 /// Reads the words after the program's name. `Err` is a fault of the words, or the help or the version that they ask for.

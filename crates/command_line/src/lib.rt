@@ -20,6 +20,7 @@ mod receive;
 mod sample;
 mod shares;
 mod spreading;
+mod value_fault;
 mod words;
 
 pub use command::{
