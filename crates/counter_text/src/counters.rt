@@ -3,7 +3,7 @@
 use ipv4_fields::Endpoint;
 
 /// How often each result came, since the switch began.
-#[derive(Clone, Copy, Debug, PartialEq, Eq)]
+#[derive(Clone, Copy)]
 pub struct Totals {
     pub malformed: u64,
     pub nogroup: u64,
@@ -17,7 +17,7 @@ pub struct Totals {
 }
 
 /// The counts of a group. Members that left are counted too.
-#[derive(Clone, Copy, Debug, PartialEq, Eq)]
+#[derive(Clone, Copy)]
 pub struct GroupCount {
     pub key: Endpoint,
     pub delivered: u64,
@@ -27,7 +27,7 @@ pub struct GroupCount {
 }
 
 /// The counts of a member of a group.
-#[derive(Clone, Copy, Debug, PartialEq, Eq)]
+#[derive(Clone, Copy)]
 pub struct MemberCount {
     pub key: Endpoint,
     pub id: u32,
@@ -52,7 +52,7 @@ pub struct Counters {
 }
 
 /// How many datagrams the kernel dropped at the sockets of a front.
-#[derive(Clone, Copy, Debug, PartialEq, Eq)]
+#[derive(Clone, Copy)]
 pub struct FrontDrops {
     pub front: Endpoint,
     pub drops: u64,

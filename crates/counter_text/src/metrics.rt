@@ -1,7 +1,7 @@
 //! Counters in Prometheus' text format, version 0.0.4 (docs/COMMANDS.md, "metrics").
 
-ghost use Rattle.std.specs.Prelude.{◌≡◌, IfOk, codes, string_bytes};
-ghost use Rattle.counter_text.specs.Metrics.{block_head, failures_block, front_block, group_block, group_help, group_name, group_samples, member_block, member_help, member_labels, member_name, member_samples, metrics_text, result_label, rules_block, sample, single_block, totals_block};
+ghost use Rattle.std.specs.Prelude.{◌≡◌, ◌++◌, IfOk, OnOk, codes, string_bytes};
+ghost use Rattle.counter_text.specs.Metrics.{block_head, failures_block, front_block, group_block, group_help, group_labels, group_name, group_samples, member_block, member_help, member_labels, member_name, member_samples, metrics_text, result_label, rules_block, sample, single_block, totals_block, with_result};
 
 use crate::counters::{Counters, FrontDrops, GroupCount, MemberCount, Totals};
 use crate::labels::{front_labels, group_labels, member_labels, result_label, with_result};
@@ -31,109 +31,120 @@ pub(crate) enum MemberMetric {
 }
 
 #[tactic(auto, unfolding(crate::specs::Metrics::block_head))]
-fn block_head(alloc: Global, name: &str, kind: &str, help: &str) -> Result<String, AllocError>
-    ensures { IfOk result (λ text. string_bytes text ≡ block_head name.now kind.now help.now) }
+fn block_head(text: &mut String, name: &str, kind: &str, help: &str) -> Result<(), AllocError>
+    ensures { OnOk result (string_bytes text.new ≡ string_bytes text.old ++ block_head name.now kind.now help.now) }
 {
-    format!(in alloc; "# HELP {name} {help}\n# TYPE {name} {kind}\n")
+    write!(text, "# HELP {name} {help}\n# TYPE {name} {kind}\n")
 }
 
 #[tactic(auto, unfolding(crate::specs::Metrics::sample))]
-fn sample(alloc: Global, name: &str, labels: &str, value: u64) -> Result<String, AllocError>
-    ensures { IfOk result (λ text. string_bytes text ≡ sample name.now labels.now value) }
+fn sample(text: &mut String, name: &str, labels: &str, value: u64) -> Result<(), AllocError>
+    ensures { OnOk result (string_bytes text.new ≡ string_bytes text.old ++ sample name.now labels.now value) }
 {
-    format!(in alloc; "{name}{{{labels}}} {value}\n")
+    write!(text, "{name}{{{labels}}} {value}\n")
+}
+
+// The sample of a result of all datagrams.
+fn total_sample(
+    alloc: Global,
+    text: &mut String,
+    result_name: &str,
+    value: u64,
+) -> Result<(), AllocError>
+    ensures { OnOk result (string_bytes text.new ≡ string_bytes text.old ++ sample (codes "dswitch_datagrams_total") (result_label result_name.now) value) }
+{
+    let labels = result_label(alloc, result_name)?;
+    sample(text, "dswitch_datagrams_total", &labels, value)
+}
+
+// The sample of a result of a group or a member, with its other labels.
+fn result_sample(
+    alloc: Global,
+    text: &mut String,
+    name: &str,
+    labels: &str,
+    counted: (&str, u64),
+) -> Result<(), AllocError>
+    ensures { OnOk result (string_bytes text.new ≡ string_bytes text.old ++ sample name.now (with_result labels.now counted.entry.0.now) counted.entry.1) }
+{
+    let labels = with_result(alloc, labels, counted.0)?;
+    sample(text, name, &labels, counted.1)
 }
 
 #[tactic(auto, unfolding(crate::specs::Metrics::single_block))]
 fn single_block(
-    alloc: Global,
+    text: &mut String,
     name: &str,
     kind: &str,
     help: &str,
     value: u64,
-) -> Result<String, AllocError>
-    ensures { IfOk result (λ text. string_bytes text ≡ single_block name.now kind.now help.now value) }
+) -> Result<(), AllocError>
+    ensures { OnOk result (string_bytes text.new ≡ string_bytes text.old ++ single_block name.now kind.now help.now value) }
 {
-    let head = block_head(alloc, name, kind, help)?;
-    format!(in alloc; "{head}{name} {value}\n")
+    block_head(text, name, kind, help)?;
+    write!(text, "{name} {value}\n")
 }
 
-// The sample of a result of all datagrams.
-fn total_sample(alloc: Global, result_name: &str, value: u64) -> Result<String, AllocError>
-    ensures { IfOk result (λ text. string_bytes text ≡ sample (codes "dswitch_datagrams_total") (result_label result_name.now) value) }
-{
-    let labels = result_label(alloc, result_name)?;
-    sample(alloc, "dswitch_datagrams_total", &labels, value)
-}
-
-fn totals_block(alloc: Global, totals: Totals) -> Result<String, AllocError>
-    ensures { IfOk result (λ text. string_bytes text ≡ totals_block totals) }
+fn totals_block(alloc: Global, text: &mut String, totals: Totals) -> Result<(), AllocError>
+    ensures { OnOk result (string_bytes text.new ≡ string_bytes text.old ++ totals_block totals) }
 {
     let help = "Datagrams that came to the front, by what became of them.";
-    let mut text = block_head(alloc, "dswitch_datagrams_total", "counter", help)?;
-    text.push_str(&total_sample(alloc, "malformed", totals.malformed)?)?;
-    text.push_str(&total_sample(alloc, "nogroup", totals.nogroup)?)?;
-    text.push_str(&total_sample(alloc, "nomembers", totals.nomembers)?)?;
-    text.push_str(&total_sample(alloc, "dropped", totals.dropped)?)?;
-    text.push_str(&total_sample(alloc, "delivered", totals.delivered)?)?;
-    Ok(text)
+    block_head(text, "dswitch_datagrams_total", "counter", help)?;
+    total_sample(alloc, text, "malformed", totals.malformed)?;
+    total_sample(alloc, text, "nogroup", totals.nogroup)?;
+    total_sample(alloc, text, "nomembers", totals.nomembers)?;
+    total_sample(alloc, text, "dropped", totals.dropped)?;
+    total_sample(alloc, text, "delivered", totals.delivered)
 }
 
-fn failures_block(alloc: Global, totals: Totals) -> Result<String, AllocError>
-    ensures { IfOk result (λ text. string_bytes text ≡ failures_block totals) }
+fn failures_block(text: &mut String, totals: Totals) -> Result<(), AllocError>
+    ensures { OnOk result (string_bytes text.new ≡ string_bytes text.old ++ failures_block totals) }
 {
     let sends = "Delivered datagrams that could not be sent.";
     let receives = "Failed receives at the front.";
-    let mut text = single_block(
-        alloc,
-        "dswitch_send_failures_total",
-        "counter",
-        sends,
-        totals.sendfailed,
-    )?;
-    text.push_str(&single_block(
-        alloc,
+    let (sent, received) = (totals.sendfailed, totals.receivefailed);
+    single_block(text, "dswitch_send_failures_total", "counter", sends, sent)?;
+    single_block(
+        text,
         "dswitch_receive_failures_total",
         "counter",
         receives,
-        totals.receivefailed,
-    )?)?;
-    Ok(text)
+        received,
+    )
 }
 
-fn gauge(alloc: Global, name: &str, help: &str, value: u64) -> Result<String, AllocError>
-    ensures { IfOk result (λ text. string_bytes text ≡ single_block name.now (codes "gauge") help.now value) }
+fn gauge(text: &mut String, name: &str, help: &str, value: u64) -> Result<(), AllocError>
+    ensures { OnOk result (string_bytes text.new ≡ string_bytes text.old ++ single_block name.now (codes "gauge") help.now value) }
 {
-    single_block(alloc, name, "gauge", help, value)
+    single_block(text, name, "gauge", help, value)
 }
 
 fn rules_block(
-    alloc: Global,
+    text: &mut String,
     version: u64,
     charge: u64,
     counts: (usize, usize),
-) -> Result<String, AllocError>
-    ensures { IfOk result (λ text. string_bytes text ≡ rules_block version charge counts.0 counts.1) }
+) -> Result<(), AllocError>
+    ensures { OnOk result (string_bytes text.new ≡ string_bytes text.old ++ rules_block version charge counts.0 counts.1) }
 {
     let groups = counts.0 as u64;
     let members = counts.1 as u64;
     let limit = "The largest charge that rules may have.";
-    let mut text = gauge(
-        alloc,
+    gauge(
+        text,
         "dswitch_rules_version",
         "The version of the rules.",
         version,
     )?;
-    text.push_str(&gauge(
-        alloc,
+    gauge(
+        text,
         "dswitch_rules_charge",
         "The charge of the rules.",
         charge,
-    )?)?;
-    text.push_str(&gauge(alloc, "dswitch_rules_charge_limit", limit, CHARGE_LIMIT)?)?;
-    text.push_str(&gauge(alloc, "dswitch_groups", "Groups of the rules.", groups)?)?;
-    text.push_str(&gauge(alloc, "dswitch_members", "Members of all groups.", members)?)?;
-    Ok(text)
+    )?;
+    gauge(text, "dswitch_rules_charge_limit", limit, CHARGE_LIMIT)?;
+    gauge(text, "dswitch_groups", "Groups of the rules.", groups)?;
+    gauge(text, "dswitch_members", "Members of all groups.", members)
 }
 
 impl GroupMetric {
@@ -158,49 +169,50 @@ impl GroupMetric {
     }
 }
 
-// The samples of the datagrams of a group.
-fn group_datagrams(alloc: Global, group: &GroupCount) -> Result<String, AllocError>
-    ensures { IfOk result (λ text. string_bytes text ≡ group_samples GroupMetric.Datagrams group.now) }
+// The samples of the datagrams of a group with these labels.
+fn group_datagrams(
+    alloc: Global,
+    text: &mut String,
+    labels: &str,
+    group: &GroupCount,
+) -> Result<(), AllocError>
+    requires { labels.now ≡ group_labels group.now.key }
+    ensures { OnOk result (string_bytes text.new ≡ string_bytes text.old ++ group_samples GroupMetric.Datagrams group.now) }
 {
     let name = "dswitch_group_datagrams_total";
-    let labels = group_labels(alloc, group.key)?;
-    let nomembers = with_result(alloc, &labels, "nomembers")?;
-    let dropped = with_result(alloc, &labels, "dropped")?;
-    let delivered = with_result(alloc, &labels, "delivered")?;
-    let mut text = sample(alloc, name, &nomembers, group.nomembers)?;
-    text.push_str(&sample(alloc, name, &dropped, group.dropped)?)?;
-    text.push_str(&sample(alloc, name, &delivered, group.delivered)?)?;
-    Ok(text)
+    result_sample(alloc, text, name, labels, ("nomembers", group.nomembers))?;
+    result_sample(alloc, text, name, labels, ("dropped", group.dropped))?;
+    result_sample(alloc, text, name, labels, ("delivered", group.delivered))
 }
 
 fn group_samples(
     alloc: Global,
+    text: &mut String,
     metric: GroupMetric,
     group: &GroupCount,
-) -> Result<String, AllocError>
-    ensures { IfOk result (λ text. string_bytes text ≡ group_samples metric group.now) }
+) -> Result<(), AllocError>
+    ensures { OnOk result (string_bytes text.new ≡ string_bytes text.old ++ group_samples metric group.now) }
 {
+    let labels = group_labels(alloc, group.key)?;
     match metric {
-        GroupMetric::Datagrams => group_datagrams(alloc, group),
-        GroupMetric::SendFailures => {
-            let labels = group_labels(alloc, group.key)?;
-            sample(alloc, metric.name(), &labels, group.sendfailed)
-        }
+        GroupMetric::Datagrams => group_datagrams(alloc, text, &labels, group),
+        GroupMetric::SendFailures => sample(text, metric.name(), &labels, group.sendfailed),
     }
 }
 
 fn group_block(
     alloc: Global,
+    text: &mut String,
     metric: GroupMetric,
     groups: &[GroupCount],
-) -> Result<String, AllocError>
-    ensures { IfOk result (λ text. string_bytes text ≡ group_block metric groups.now) }
+) -> Result<(), AllocError>
+    ensures { OnOk result (string_bytes text.new ≡ string_bytes text.old ++ group_block metric groups.now) }
 {
-    let mut text = block_head(alloc, metric.name(), "counter", metric.help())?;
+    block_head(text, metric.name(), "counter", metric.help())?;
     for group in groups {
-        text.push_str(&group_samples(alloc, metric, group)?)?;
+        group_samples(alloc, text, metric, group)?;
     }
-    Ok(text)
+    Ok(())
 }
 
 impl MemberMetric {
@@ -225,74 +237,90 @@ impl MemberMetric {
     }
 }
 
-// The samples of the datagrams of a member.
-fn member_datagrams(alloc: Global, member: &MemberCount) -> Result<String, AllocError>
-    ensures { IfOk result (λ text. string_bytes text ≡ member_samples MemberMetric.Datagrams member.now) }
+// The samples of the datagrams of a member with these labels.
+fn member_datagrams(
+    alloc: Global,
+    text: &mut String,
+    labels: &str,
+    member: &MemberCount,
+) -> Result<(), AllocError>
+    requires { labels.now ≡ member_labels member.now }
+    ensures { OnOk result (string_bytes text.new ≡ string_bytes text.old ++ member_samples MemberMetric.Datagrams member.now) }
 {
     let name = "dswitch_member_datagrams_total";
-    let labels = member_labels(alloc, member)?;
-    let dropped = with_result(alloc, &labels, "dropped")?;
-    let delivered = with_result(alloc, &labels, "delivered")?;
-    let mut text = sample(alloc, name, &dropped, member.dropped)?;
-    text.push_str(&sample(alloc, name, &delivered, member.delivered)?)?;
-    Ok(text)
-}
-
-// The sample of a metric of a member that has one.
-fn member_sample(
-    alloc: Global,
-    name: &str,
-    member: &MemberCount,
-    value: u64,
-) -> Result<String, AllocError>
-    ensures { IfOk result (λ text. string_bytes text ≡ sample name.now (member_labels member.now) value) }
-{
-    let labels = member_labels(alloc, member)?;
-    sample(alloc, name, &labels, value)
+    result_sample(alloc, text, name, labels, ("dropped", member.dropped))?;
+    result_sample(alloc, text, name, labels, ("delivered", member.delivered))
 }
 
 fn member_samples(
     alloc: Global,
+    text: &mut String,
     metric: MemberMetric,
     member: &MemberCount,
-) -> Result<String, AllocError>
-    ensures { IfOk result (λ text. string_bytes text ≡ member_samples metric member.now) }
+) -> Result<(), AllocError>
+    ensures { OnOk result (string_bytes text.new ≡ string_bytes text.old ++ member_samples metric member.now) }
 {
+    let labels = member_labels(alloc, member)?;
     match metric {
-        MemberMetric::Datagrams => member_datagrams(alloc, member),
-        MemberMetric::SendFailures => {
-            member_sample(alloc, metric.name(), member, member.sendfailed)
-        }
-        MemberMetric::Bytes => member_sample(alloc, metric.name(), member, member.bytes),
+        MemberMetric::Datagrams => member_datagrams(alloc, text, &labels, member),
+        MemberMetric::SendFailures => sample(text, metric.name(), &labels, member.sendfailed),
+        MemberMetric::Bytes => sample(text, metric.name(), &labels, member.bytes),
     }
 }
 
 fn member_block(
     alloc: Global,
+    text: &mut String,
     metric: MemberMetric,
     members: &[MemberCount],
-) -> Result<String, AllocError>
-    ensures { IfOk result (λ text. string_bytes text ≡ member_block metric members.now) }
+) -> Result<(), AllocError>
+    ensures { OnOk result (string_bytes text.new ≡ string_bytes text.old ++ member_block metric members.now) }
 {
-    let mut text = block_head(alloc, metric.name(), "counter", metric.help())?;
+    block_head(text, metric.name(), "counter", metric.help())?;
     for member in members {
-        text.push_str(&member_samples(alloc, metric, member)?)?;
+        member_samples(alloc, text, metric, member)?;
     }
-    Ok(text)
+    Ok(())
 }
 
-fn front_block(alloc: Global, front: Option<FrontDrops>) -> Result<String, AllocError>
-    ensures { IfOk result (λ text. string_bytes text ≡ front_block front) }
+fn front_block(
+    alloc: Global,
+    text: &mut String,
+    front: Option<FrontDrops>,
+) -> Result<(), AllocError>
+    ensures { OnOk result (string_bytes text.new ≡ string_bytes text.old ++ front_block front) }
 {
     let Some(it) = front else {
-        return Ok(String::new(alloc));
+        return Ok(());
     };
     let name = "dswitch_front_kernel_drops_total";
     let help = "Datagrams that the kernel dropped at the sockets of the front.";
+    block_head(text, name, "counter", help)?;
     let labels = front_labels(alloc, it.front)?;
-    let mut text = block_head(alloc, name, "counter", help)?;
-    text.push_str(&sample(alloc, name, &labels, it.drops)?)?;
-    Ok(text)
+    sample(text, name, &labels, it.drops)
+}
+
+fn push_metrics(
+    alloc: Global,
+    text: &mut String,
+    counters: &Counters,
+    front: Option<FrontDrops>,
+) -> Result<(), AllocError>
+    ensures { OnOk result (string_bytes text.new ≡ string_bytes text.old ++ metrics_text counters.now front) }
+{
+    let groups = counters.groups.as_slice();
+    let members = counters.members.as_slice();
+    let (version, charge) = (counters.version, u64::from(counters.charge));
+    let counts = (groups.len(), members.len());
+    totals_block(alloc, text, counters.totals)?;
+    failures_block(text, counters.totals)?;
+    rules_block(text, version, charge, counts)?;
+    group_block(alloc, text, GroupMetric::Datagrams, groups)?;
+    group_block(alloc, text, GroupMetric::SendFailures, groups)?;
+    member_block(alloc, text, MemberMetric::Datagrams, members)?;
+    member_block(alloc, text, MemberMetric::SendFailures, members)?;
+    member_block(alloc, text, MemberMetric::Bytes, members)?;
+    front_block(alloc, text, front)
 }
 
 /// Returns the counters as metrics, with the kernel's drops at a front if they were asked for.
@@ -303,18 +331,7 @@ pub fn metrics_text(
 ) -> Result<String, AllocError>
     ensures { IfOk result (λ text. string_bytes text ≡ metrics_text counters.now front) }
 {
-    let groups = counters.groups.as_slice();
-    let members = counters.members.as_slice();
-    let (version, charge) = (counters.version, u64::from(counters.charge));
-    let counts = (groups.len(), members.len());
-    let mut text = totals_block(alloc, counters.totals)?;
-    text.push_str(&failures_block(alloc, counters.totals)?)?;
-    text.push_str(&rules_block(alloc, version, charge, counts)?)?;
-    text.push_str(&group_block(alloc, GroupMetric::Datagrams, groups)?)?;
-    text.push_str(&group_block(alloc, GroupMetric::SendFailures, groups)?)?;
-    text.push_str(&member_block(alloc, MemberMetric::Datagrams, members)?)?;
-    text.push_str(&member_block(alloc, MemberMetric::SendFailures, members)?)?;
-    text.push_str(&member_block(alloc, MemberMetric::Bytes, members)?)?;
-    text.push_str(&front_block(alloc, front)?)?;
+    let mut text = String::new(alloc);
+    push_metrics(alloc, &mut text, counters, front)?;
     Ok(text)
 }

@@ -1,6 +1,8 @@
 //! The counters of a switch at two readings, as a screen of rates (docs/COMMANDS.md, "top").
 
-ghost use Rattle.std.specs.Prelude.{◌≡◌, ◌≤◌, ◌<◌, ◌^◌, IfOk, codes, decimal, string_bytes};
+ghost use Rattle.std.specs.Prelude.{◌≡◌, ◌≤◌, ◌<◌, ◌^◌, ◌++◌, IfOk, OnOk, codes, decimal, replicate, string_bytes};
+ghost use Rattle.std.specs.List.{flat_map};
+ghost use Rattle.ipv4_fields.specs.Endpoint.{endpoint_text};
 ghost use Rattle.counter_text.specs.Growth.{rate};
 ghost use Rattle.counter_text.specs.Screen.{bytes_of, column, first_column, group_rows, growth_row, header, member_row, members_of, named, row_text, screen_text, tenths_text, totals_line, totals_rates};
 
@@ -25,50 +27,52 @@ struct Cells<'a> {
     share: &'a str,
 }
 
+fn push_spaces(row: &mut String, count: usize) -> Result<(), AllocError>
+    ensures { OnOk result (string_bytes row.new ≡ string_bytes row.old ++ replicate count 32) }
+{
+    for _space in 0..count {
+        row.push_str(" ")?;
+    }
+    Ok(())
+}
+
 // A text at the right of a column, after a space.
 #[tactic(auto, unfolding(crate::specs::Screen::column))]
-fn column(alloc: Global, width: usize, text: &str) -> Result<String, AllocError>
-    ensures { IfOk result (λ cell. string_bytes cell ≡ column width text.now) }
+fn column(row: &mut String, width: usize, text: &str) -> Result<(), AllocError>
+    ensures { OnOk result (string_bytes row.new ≡ string_bytes row.old ++ column width text.now) }
 {
-    let mut cell = String::from_str(alloc, " ")?;
-    for _space in text.len()..width {
-        cell.push_str(" ")?;
-    }
-    cell.push_str(text)?;
-    Ok(cell)
+    row.push_str(" ")?;
+    push_spaces(row, width.saturating_sub(text.len()))?;
+    row.push_str(text)
 }
 
 // A text at the left of a column.
 #[tactic(auto, unfolding(crate::specs::Screen::first_column))]
-fn first_column(alloc: Global, width: usize, text: &str) -> Result<String, AllocError>
-    ensures { IfOk result (λ cell. string_bytes cell ≡ first_column width text.now) }
+fn first_column(row: &mut String, width: usize, text: &str) -> Result<(), AllocError>
+    ensures { OnOk result (string_bytes row.new ≡ string_bytes row.old ++ first_column width text.now) }
 {
-    let mut cell = String::from_str(alloc, text)?;
-    for _space in text.len()..width {
-        cell.push_str(" ")?;
-    }
-    Ok(cell)
+    row.push_str(text)?;
+    push_spaces(row, width.saturating_sub(text.len()))
 }
 
 #[tactic(auto, unfolding(crate::specs::Screen::row_text))]
-fn row_text(alloc: Global, cells: Cells<'_>) -> Result<String, AllocError>
-    ensures { IfOk result (λ row. string_bytes row ≡ row_text cells.entry.group.now cells.entry.member.now cells.entry.packets.now
+fn row_text(row: &mut String, cells: Cells<'_>) -> Result<(), AllocError>
+    ensures { OnOk result (string_bytes row.new ≡ string_bytes row.old ++ row_text cells.entry.group.now cells.entry.member.now cells.entry.packets.now
         cells.entry.bytes.now cells.entry.dropped.now cells.entry.failed.now cells.entry.share.now) }
 {
-    let mut row = first_column(alloc, 21, cells.group)?;
-    row.push_str(&column(alloc, 10, cells.member)?)?;
-    row.push_str(&column(alloc, 12, cells.packets)?)?;
-    row.push_str(&column(alloc, 15, cells.bytes)?)?;
-    row.push_str(&column(alloc, 12, cells.dropped)?)?;
-    row.push_str(&column(alloc, 10, cells.failed)?)?;
-    row.push_str(&column(alloc, 6, cells.share)?)?;
-    row.push_str("\n")?;
-    Ok(row)
+    first_column(row, 21, cells.group)?;
+    column(row, 10, cells.member)?;
+    column(row, 12, cells.packets)?;
+    column(row, 15, cells.bytes)?;
+    column(row, 12, cells.dropped)?;
+    column(row, 10, cells.failed)?;
+    column(row, 6, cells.share)?;
+    row.push_str("\n")
 }
 
 #[tactic(auto, unfolding(crate::specs::Screen::header))]
-fn header(alloc: Global) -> Result<String, AllocError>
-    ensures { IfOk result (λ row. string_bytes row ≡ header) }
+fn header(row: &mut String) -> Result<(), AllocError>
+    ensures { OnOk result (string_bytes row.new ≡ string_bytes row.old ++ header) }
 {
     let cells = Cells {
         group: "GROUP",
@@ -79,7 +83,7 @@ fn header(alloc: Global) -> Result<String, AllocError>
         failed: "FAILED",
         share: "SHARE",
     };
-    row_text(alloc, cells)
+    row_text(row, cells)
 }
 
 fn number_text(alloc: Global, number: u128) -> Result<String, AllocError>
@@ -97,53 +101,67 @@ fn tenths_text(alloc: Global, tenths: u128) -> Result<String, AllocError>
     format!(in alloc; "{whole}.{rest}")
 }
 
-#[tactic(auto, unfolding(crate::specs::Screen::growth_row))]
+// A number at the right of a column.
+fn number_column(
+    alloc: Global,
+    row: &mut String,
+    width: usize,
+    number: u128,
+) -> Result<(), AllocError>
+    ensures { OnOk result (string_bytes row.new ≡ string_bytes row.old ++ column width (decimal number)) }
+{
+    let text = number_text(alloc, number)?;
+    column(row, width, &text)
+}
+
+fn group_column(alloc: Global, row: &mut String, group: Endpoint) -> Result<(), AllocError>
+    ensures { OnOk result (string_bytes row.new ≡ string_bytes row.old ++ first_column 21 (endpoint_text group)) }
+{
+    let text = endpoint_string(alloc, group)?;
+    first_column(row, 21, &text)
+}
+
+#[tactic(auto, unfolding(crate::specs::Screen::growth_row, crate::specs::Screen::row_text))]
 fn growth_row(
     alloc: Global,
+    row: &mut String,
     names: (Endpoint, &str),
     growth: Growth,
     bytes: u128,
     part: &str,
     millis: u32,
-) -> Result<String, AllocError>
+) -> Result<(), AllocError>
     requires { 1000 ≤ millis }
-    ensures { IfOk result (λ row. string_bytes row ≡ growth_row names.entry.0 names.entry.1.now growth bytes part.now millis) }
+    ensures { OnOk result (string_bytes row.new ≡ string_bytes row.old ++ growth_row names.entry.0 names.entry.1.now growth bytes part.now millis) }
 {
-    let (key, member) = names;
-    let group = endpoint_string(alloc, key)?;
-    let packets = number_text(alloc, rate(growth.packets, millis))?;
-    let bytes = number_text(alloc, rate(bytes, millis))?;
-    let dropped = number_text(alloc, rate(growth.dropped, millis))?;
-    let failed = number_text(alloc, u128::from(growth.failed))?;
-    let cells = Cells {
-        group: &group,
-        member,
-        packets: &packets,
-        bytes: &bytes,
-        dropped: &dropped,
-        failed: &failed,
-        share: part,
-    };
-    row_text(alloc, cells)
+    group_column(alloc, row, names.0)?;
+    column(row, 10, names.1)?;
+    number_column(alloc, row, 12, rate(growth.packets, millis))?;
+    number_column(alloc, row, 15, rate(bytes, millis))?;
+    number_column(alloc, row, 12, rate(growth.dropped, millis))?;
+    number_column(alloc, row, 10, u128::from(growth.failed))?;
+    column(row, 6, part)?;
+    row.push_str("\n")
 }
 
 #[tactic(auto, unfolding(crate::specs::Screen::member_row))]
 fn member_row(
     alloc: Global,
+    row: &mut String,
     earlier: &[MemberCount],
     packets: u128,
     millis: u32,
     member: MemberCount,
-) -> Result<String, AllocError>
+) -> Result<(), AllocError>
     requires { 1000 ≤ millis }
-    ensures { IfOk result (λ row. string_bytes row ≡ member_row earlier.now packets millis member) }
+    ensures { OnOk result (string_bytes row.new ≡ string_bytes row.old ++ member_row earlier.now packets millis member) }
 {
     let before = member_before(earlier, member);
     let growth = member_growth(before, member);
     let bytes = u128::from(bytes_growth(before, member));
     let id = number_text(alloc, u128::from(member.id))?;
     let part = tenths_text(alloc, share(growth.packets, packets))?;
-    growth_row(alloc, (member.key, &id), growth, bytes, &part, millis)
+    growth_row(alloc, row, (member.key, &id), growth, bytes, &part, millis)
 }
 
 // By how much the bytes of the members of a group grew.
@@ -159,50 +177,75 @@ fn bytes_of(earlier: &[MemberCount], members: &[MemberCount], key: Endpoint) -> 
     bytes
 }
 
+// The rows of the members of a group, whose packets these are.
+fn member_rows(
+    alloc: Global,
+    rows: &mut String,
+    earlier: &[MemberCount],
+    later: &[MemberCount],
+    packets: u128,
+    millis: u32,
+    group: Endpoint,
+) -> Result<(), AllocError>
+    requires { 1000 ≤ millis }
+    ensures { OnOk result (string_bytes rows.new ≡ string_bytes rows.old ++ flat_map (member_row earlier.now packets millis) (members_of group later.now)) }
+{
+    for member in later {
+        if member.key == group {
+            member_row(alloc, rows, earlier, packets, millis, *member)?;
+        }
+    }
+    Ok(())
+}
+
 #[tactic(auto, unfolding(crate::specs::Screen::group_rows))]
 fn group_rows(
     alloc: Global,
+    rows: &mut String,
     earlier: &Counters,
     later: &Counters,
     millis: u32,
     group: GroupCount,
-) -> Result<String, AllocError>
+) -> Result<(), AllocError>
     requires { 1000 ≤ millis }
-    ensures { IfOk result (λ rows. string_bytes rows ≡ group_rows earlier.now later.now millis group) }
+    ensures { OnOk result (string_bytes rows.new ≡ string_bytes rows.old ++ group_rows earlier.now later.now millis group) }
 {
     let growth = group_growth(group_before(&earlier.groups, group), group);
     let bytes = bytes_of(&earlier.members, &later.members, group.key);
-    let mut rows = growth_row(alloc, (group.key, "-"), growth, bytes, "-", millis)?;
-    for member in &later.members {
-        if member.key == group.key {
-            let row = member_row(alloc, &earlier.members, growth.packets, millis, *member)?;
-            rows.push_str(&row)?;
-        }
-    }
-    Ok(rows)
+    growth_row(alloc, rows, (group.key, "-"), growth, bytes, "-", millis)?;
+    let (packets, key) = (growth.packets, group.key);
+    member_rows(
+        alloc,
+        rows,
+        &earlier.members,
+        &later.members,
+        packets,
+        millis,
+        key,
+    )
 }
 
 // A word and a number, each after a space.
 #[tactic(auto, unfolding(crate::specs::Screen::named))]
-fn named(alloc: Global, word: &str, number: u64) -> Result<String, AllocError>
-    ensures { IfOk result (λ text. string_bytes text ≡ named word.now number) }
+fn named(line: &mut String, word: &str, number: u64) -> Result<(), AllocError>
+    ensures { OnOk result (string_bytes line.new ≡ string_bytes line.old ++ named word.now number) }
 {
-    format!(in alloc; " {word} {number}")
+    write!(line, " {word} {number}")
 }
 
-fn totals_line(alloc: Global, word: &str, totals: Totals) -> Result<String, AllocError>
-    ensures { IfOk result (λ line. string_bytes line ≡ totals_line word.now totals) }
+#[tactic(auto, unfolding(crate::specs::Screen::totals_line))]
+fn totals_line(line: &mut String, word: &str, totals: Totals) -> Result<(), AllocError>
+    ensures { OnOk result (string_bytes line.new ≡ string_bytes line.old ++ totals_line word.now totals) }
 {
-    let mut line = String::from_str(alloc, word)?;
-    line.push_str(&named(alloc, "malformed", totals.malformed)?)?;
-    line.push_str(&named(alloc, "nogroup", totals.nogroup)?)?;
-    line.push_str(&named(alloc, "nomembers", totals.nomembers)?)?;
-    line.push_str(&named(alloc, "dropped", totals.dropped)?)?;
-    line.push_str(&named(alloc, "delivered", totals.delivered)?)?;
-    line.push_str(&named(alloc, "sendfailed", totals.sendfailed)?)?;
-    line.push_str(&named(alloc, "receivefailed", totals.receivefailed)?)?;
-    line.push_str("\n")?;
-    Ok(line)
+    line.push_str(word)?;
+    named(line, "malformed", totals.malformed)?;
+    named(line, "nogroup", totals.nogroup)?;
+    named(line, "nomembers", totals.nomembers)?;
+    named(line, "dropped", totals.dropped)?;
+    named(line, "delivered", totals.delivered)?;
+    named(line, "sendfailed", totals.sendfailed)?;
+    named(line, "receivefailed", totals.receivefailed)?;
+    line.push_str("\n")
 }
 
 // A growth of 64 bits a second, which has 64 bits too.
@@ -229,6 +272,26 @@ fn totals_rates(grown: Totals, millis: u32) -> Totals
     }
 }
 
+fn push_screen(
+    alloc: Global,
+    text: &mut String,
+    earlier: &Counters,
+    later: &Counters,
+    millis: u32,
+) -> Result<(), AllocError>
+    requires { 1000 ≤ millis }
+    ensures { OnOk result (string_bytes text.new ≡ string_bytes text.old ++ screen_text earlier.now later.now millis) }
+{
+    let rates = totals_rates(totals_grown(earlier.totals, later.totals), millis);
+    totals_line(text, "totals", later.totals)?;
+    totals_line(text, "rates", rates)?;
+    header(text)?;
+    for group in &later.groups {
+        group_rows(alloc, text, earlier, later, millis, *group)?;
+    }
+    text.push_str("\n")
+}
+
 /// Returns the screen of two readings that began `millis` milliseconds apart.
 pub fn screen_text(
     alloc: Global,
@@ -239,13 +302,7 @@ pub fn screen_text(
     requires { 1000 ≤ millis }
     ensures { IfOk result (λ text. string_bytes text ≡ screen_text earlier.now later.now millis) }
 {
-    let rates = totals_rates(totals_grown(earlier.totals, later.totals), millis);
-    let mut text = totals_line(alloc, "totals", later.totals)?;
-    text.push_str(&totals_line(alloc, "rates", rates)?)?;
-    text.push_str(&header(alloc)?)?;
-    for group in &later.groups {
-        text.push_str(&group_rows(alloc, earlier, later, millis, *group)?)?;
-    }
-    text.push_str("\n")?;
+    let mut text = String::new(alloc);
+    push_screen(alloc, &mut text, earlier, later, millis)?;
     Ok(text)
 }

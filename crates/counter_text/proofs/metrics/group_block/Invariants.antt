@@ -5,4 +5,4 @@ use Rattle.counter_text.proofs.metrics.group_block.Given as goal
 
 abbrev pub invariant-loop-group : goal.invariant-loop-group
 invariant-loop-group l =
-    string_bytes l.text ≡ block_head (group_name l.metric) (codes "counter") (group_help l.metric) ++ flat_map (group_samples l.metric) (take l.group-index l.groups)
+    string_bytes l.text ≡ string_bytes l.fn.text ++ (block_head (group_name l.metric) (codes "counter") (group_help l.metric) ++ flat_map (group_samples l.metric) (take l.group-index l.groups))

@@ -5,4 +5,4 @@ use Rattle.counter_text.proofs.metrics.member_block.Given as goal
 
 abbrev pub invariant-loop-member : goal.invariant-loop-member
 invariant-loop-member l =
-    string_bytes l.text ≡ block_head (member_name l.metric) (codes "counter") (member_help l.metric) ++ flat_map (member_samples l.metric) (take l.member-index l.members)
+    string_bytes l.text ≡ string_bytes l.fn.text ++ (block_head (member_name l.metric) (codes "counter") (member_help l.metric) ++ flat_map (member_samples l.metric) (take l.member-index l.members))
