@@ -3,7 +3,9 @@
 #![tactic(auto)]
 
 ghost use Rattle.std.specs.Prelude.{◌≡◌, ◌⊎◌, Err, IfErr, IfOk, IsOk, List, ℕ};
+ghost use Rattle.filter_parse.specs.Fault.{HasFault, HasTree};
 ghost use Rattle.filter_tree.specs.Tree.{Tree};
+ghost use Rattle.filter_tree.specs.View.{tree_of};
 ghost use Rattle.filter_program.specs.Fault.{HasNotBoth, HasOneFault, HasOneProgram, IsAssemblyFault, IsExpressionFault};
 ghost use Rattle.filter_program.specs.Program.{IsAssembledTo, IsCompilable, IsProgramOfAssembly, IsProgramOfExpression};
 ghost use Rattle.filter_program.specs.declared.fault.TextFault.TheVariants.{OutOfMemory};
@@ -15,8 +17,9 @@ use bpf_verify::Program;
 use bumpalo::Bump;
 pub use fault::TextFault;
 use filter_compile::compile;
-use filter_parse::parse;
-use std::alloc::Global;
+use filter_parse::{ParseFault, parse};
+use filter_tree::Expr;
+use std::alloc::{Allocator, Global};
 
 fn program_of_assembly(alloc: Global, text: &[u8]) -> Result<Program<Global>, TextFault>
     ensures program { IfOk result (IsProgramOfAssembly text.now) }
@@ -35,9 +38,35 @@ fn program_of_expression(alloc: Global, text: &[u8]) -> Result<Program<Global>, 
     ensures fault { IfErr result (λ fault. (fault ≡ OutOfMemory) ⊎ IsExpressionFault text.now fault) }
 {
     let arena = Bump::new(alloc);
+    program_in_arena(alloc, &arena, text)
+}
+
+fn program_in_arena(
+    alloc: Global,
+    arena: &Bump<Global>,
+    text: &[u8],
+) -> Result<Program<Global>, TextFault>
+    ensures program { IfOk result (IsProgramOfExpression text.now) }
+    ensures fault { IfErr result (λ fault. (fault ≡ OutOfMemory) ⊎ IsExpressionFault text.now fault) }
+{
     // The tree stays where it was returned, since it is large.
-    let parsed = parse(&arena, text);
-    match &parsed {
+    let parsed = parse(arena, text);
+    program_of_parsed(alloc, text, &parsed)
+}
+
+fn program_of_parsed<A: Allocator>(
+    alloc: Global,
+    text: &[u8],
+    parsed: &Result<Expr<A>, ParseFault>,
+) -> Result<Program<Global>, TextFault>
+    requires parses { IfOk parsed.now (λ e. HasTree text.now (tree_of e)) }
+    requires fault { IfErr parsed.now (λ fault. (fault ≡ ParseFault.OutOfMemory) ⊎ HasFault text.now fault) }
+    ensures program { IfOk result (IsProgramOfExpression text.now) }
+    ensures fault { IfErr result (λ fault. (fault ≡ OutOfMemory) ⊎ IsExpressionFault text.now fault) }
+{
+    // Only the clauses name this.
+    let _text = text;
+    match parsed {
         Ok(tree) => Ok(compile(alloc, tree)?),
         Err(fault) => Err(TextFault::from(*fault)),
     }
