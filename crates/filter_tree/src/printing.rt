@@ -3,7 +3,7 @@
 ghost use Rattle.std.specs.Prelude.{◌≡◌, ◌++◌, IfOk, OnOk, codes, string_bytes};
 ghost use Rattle.std.specs.Fmt.{decimal};
 ghost use Rattle.filter_tree.specs.Text.{beside, printed, printed_address, printed_arith, printed_direction, printed_operator, printed_primitive, printed_protocol, printed_relation, printed_size, printed_transport};
-ghost use Rattle.filter_tree.specs.declared.primitive.Primitive.TheVariants.{Host, Net};
+ghost use Rattle.filter_tree.specs.declared.primitive.Primitive.TheVariants.{Host, Net, Port, PortRange};
 ghost use Rattle.filter_tree.specs.Tree.{IsArithInRange, IsInRange, IsPrimitiveInRange};
 ghost use Rattle.filter_tree.specs.body.Connective.{printed_connective};
 ghost use Rattle.filter_tree.specs.View.{arith_tree_of, tree_of};
@@ -137,7 +137,8 @@ fn print_host<B: Allocator>(
 ) -> Result<(), OutOfMemory>
     ensures { OnOk result (string_bytes text.new ≡ string_bytes text.old ++ printed_primitive (Host direction address)) }
 {
-    write!(text, "{}host ", direction_text(direction))?;
+    text.push_str(direction_text(direction))?;
+    text.push_str("host ")?;
     print_address(text, address)
 }
 
@@ -148,9 +149,56 @@ fn print_net<B: Allocator>(
 ) -> Result<(), OutOfMemory>
     ensures { OnOk result (string_bytes text.new ≡ string_bytes text.old ++ printed_primitive (Net direction prefix)) }
 {
-    write!(text, "{}net ", direction_text(direction))?;
+    text.push_str(direction_text(direction))?;
+    text.push_str("net ")?;
     print_address(text, prefix.address())?;
-    write!(text, "/{}", prefix.length())
+    print_named(text, "/", prefix.length())
+}
+
+// Prints a primitive on ports before its numbers.
+fn print_ports<B: Allocator>(
+    text: &mut String<B>,
+    transport: Transport,
+    direction: Direction,
+    name: &str,
+) -> Result<(), OutOfMemory>
+    ensures { OnOk result (string_bytes text.new ≡ string_bytes text.old ++ (printed_transport transport ++ printed_direction direction ++ name.now)) }
+{
+    text.push_str(transport_text(transport))?;
+    text.push_str(direction_text(direction))?;
+    text.push_str(name)
+}
+
+fn print_port<B: Allocator>(
+    text: &mut String<B>,
+    transport: Transport,
+    direction: Direction,
+    n: u16,
+) -> Result<(), OutOfMemory>
+    ensures { OnOk result (string_bytes text.new ≡ string_bytes text.old ++ printed_primitive (Port transport direction n)) }
+{
+    print_ports(text, transport, direction, "port ")?;
+    print_number(text, u32::from(n))
+}
+
+fn print_port_range<B: Allocator>(
+    text: &mut String<B>,
+    transport: Transport,
+    direction: Direction,
+    ends: (u16, u16),
+) -> Result<(), OutOfMemory>
+    ensures { OnOk result (string_bytes text.new ≡ string_bytes text.old ++ printed_primitive (PortRange transport direction ends.0 ends.1)) }
+{
+    print_ports(text, transport, direction, "portrange ")?;
+    let (n, m) = ends;
+    write!(text, "{n}-{m}")
+}
+
+// Prints a number after a name.
+fn print_named<B: Allocator>(text: &mut String<B>, name: &str, n: u32) -> Result<(), OutOfMemory>
+    ensures { OnOk result (string_bytes text.new ≡ string_bytes text.old ++ (name.now ++ decimal n)) }
+{
+    write!(text, "{name}{n}")
 }
 
 fn print_primitive<B: Allocator>(
@@ -162,19 +210,15 @@ fn print_primitive<B: Allocator>(
 {
     match primitive {
         Primitive::Ip => text.push_str("ip"),
-        Primitive::Proto(n) => write!(text, "ip proto {n}"),
+        Primitive::Proto(n) => print_named(text, "ip proto ", u32::from(n)),
         Primitive::Host(direction, address) => print_host(text, direction, address),
         Primitive::Net(direction, prefix) => print_net(text, direction, prefix),
-        Primitive::Port(transport, direction, n) => {
-            let (transport, direction) = (transport_text(transport), direction_text(direction));
-            write!(text, "{transport}{direction}port {n}")
-        }
+        Primitive::Port(transport, direction, n) => print_port(text, transport, direction, n),
         Primitive::PortRange(transport, direction, n, m) => {
-            let (transport, direction) = (transport_text(transport), direction_text(direction));
-            write!(text, "{transport}{direction}portrange {n}-{m}")
+            print_port_range(text, transport, direction, (n, m))
         }
-        Primitive::AtMost(n) => write!(text, "less {n}"),
-        Primitive::AtLeast(n) => write!(text, "greater {n}"),
+        Primitive::AtMost(n) => print_named(text, "less ", n),
+        Primitive::AtLeast(n) => print_named(text, "greater ", n),
     }
 }
 
@@ -190,18 +234,46 @@ fn print_arith<A: Allocator, B: Allocator>(
         Arith::Number(n) => print_number(text, *n),
         Arith::Length => text.push_str("len"),
         Arith::Accessor(protocol, index, size) => {
-            write!(text, "{}[", protocol_text(*protocol))?;
+            begin_accessor(text, *protocol)?;
             print_arith(text, "", index)?;
-            write!(text, ":{}]", size_text(*size))
+            end_accessor(text, *size)
         }
         Arith::Operation(left, operator, right) => {
-            write!(text, "({gap}")?;
+            begin_operation(text, gap)?;
             print_arith(text, gap, left)?;
             print_operator(text, gap, *operator)?;
             print_arith(text, gap, right)?;
-            write!(text, "{gap})")
+            end_operation(text, gap)
         }
     }
+}
+
+fn begin_accessor<B: Allocator>(text: &mut String<B>, protocol: Protocol) -> Result<(), OutOfMemory>
+    ensures { OnOk result (string_bytes text.new ≡ string_bytes text.old ++ (printed_protocol protocol ++ codes "[")) }
+{
+    text.push_str(protocol_text(protocol))?;
+    text.push_str("[")
+}
+
+fn end_accessor<B: Allocator>(text: &mut String<B>, size: Size) -> Result<(), OutOfMemory>
+    ensures { OnOk result (string_bytes text.new ≡ string_bytes text.old ++ (codes ":" ++ printed_size size ++ codes "]")) }
+{
+    let size = size_text(size);
+    write!(text, ":{size}]")
+}
+
+fn begin_operation<B: Allocator>(text: &mut String<B>, gap: &str) -> Result<(), OutOfMemory>
+    ensures { OnOk result (string_bytes text.new ≡ string_bytes text.old ++ (codes "(" ++ gap.now)) }
+{
+    text.push_str("(")?;
+    text.push_str(gap)
+}
+
+fn end_operation<B: Allocator>(text: &mut String<B>, gap: &str) -> Result<(), OutOfMemory>
+    ensures { OnOk result (string_bytes text.new ≡ string_bytes text.old ++ (gap.now ++ codes ")")) }
+{
+    text.push_str(gap)?;
+    text.push_str(")")
 }
 
 fn print_operator<B: Allocator>(
@@ -235,7 +307,7 @@ fn print_expr<A: Allocator, B: Allocator>(
         Expr::Primitive(primitive) => print_primitive(text, *primitive),
         Expr::Relation(left, relation, right) => {
             print_arith(text, " ", left)?;
-            write!(text, " {} ", relation_text(*relation))?;
+            print_relation(text, *relation)?;
             print_arith(text, " ", right)
         }
         Expr::Not(inner) => {
@@ -250,6 +322,13 @@ fn print_expr<A: Allocator, B: Allocator>(
             text.push_str(" )")
         }
     }
+}
+
+fn print_relation<B: Allocator>(text: &mut String<B>, relation: Relation) -> Result<(), OutOfMemory>
+    ensures { OnOk result (string_bytes text.new ≡ string_bytes text.old ++ (codes " " ++ printed_relation relation ++ codes " ")) }
+{
+    let relation = relation_text(relation);
+    write!(text, " {relation} ")
 }
 
 fn connective_text<A: Allocator>(expr: &Expr<A>) -> &'static str
