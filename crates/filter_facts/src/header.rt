@@ -5,7 +5,7 @@ ghost use Rattle.filter_facts.specs.Known.{IsHeader, IsProtocol};
 ghost use Rattle.filter_facts.specs.Told.{agreed, first_in, ip_told, is_number, number_told, ports_in, ports_told, protocol_in};
 
 /// The facts known about the protocol's number.
-#[derive(Clone, Copy, Debug, PartialEq, Eq)]
+#[derive(Clone, Copy)]
 pub(crate) enum Protocol {
     /// Nothing, not even that the packet has the byte.
     Any,
@@ -16,7 +16,7 @@ pub(crate) enum Protocol {
 }
 
 /// The facts known about the header. Protocol and fragment are known only if the packet is known to be IPv4.
-#[derive(Clone, Copy, Debug, PartialEq, Eq)]
+#[derive(Clone, Copy)]
 pub(crate) enum Header {
     /// Nothing.
     Any,

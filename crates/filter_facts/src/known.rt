@@ -17,7 +17,7 @@ use filter_tree::Transport;
 
 /// The facts known about a packet, about X (whether it has the length of the IPv4 header) and about A.
 /// The reason: docs/INTERNALS.md, "What is known is a few facts".
-#[derive(Clone, Copy, Debug, PartialEq, Eq)]
+#[derive(Clone, Copy)]
 pub struct Known {
     pub(crate) header: Header,
     pub(crate) header_in_x: bool,

@@ -4,7 +4,7 @@ ghost use Rattle.std.specs.Prelude.{◌≡◌, List, Some, ℕ};
 ghost use Rattle.filter_facts.specs.Known.{IsInA};
 
 /// A number of a packet's headers that is loaded whole.
-#[derive(Clone, Copy, Debug, PartialEq, Eq)]
+#[derive(Clone, Copy, PartialEq, Eq)]
 pub enum Loaded {
     /// The number of the protocol.
     Protocol,
