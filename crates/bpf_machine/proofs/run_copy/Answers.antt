@@ -1,4 +1,5 @@
 use Rattle.std.proofs.Common.{◌≡◌, ◌∙◌, ◌+◌, ◌-◌, ◌≤◌, ap, arith, refl, sym}
+use Rattle.std.proofs.lemmas.Grind.{common_steps}
 use Rattle.bpf_verify.proofs.PlaceLemmas.{length-program_at}
 use Rattle.bpf_machine.specs.declared.execute.Next.{Next}
 use Rattle.bpf_machine.specs.Meaning.{Run}
@@ -18,6 +19,9 @@ running-preserved-in-GoOn g c =
       omega arith,
       running_next _ c.args.packet.now _ _ _ _ _ _ _ (running_go_on _ c.args.packet.now c.requires.accepted (c.running.state.place - c.args.from) c.running.state.passed_over _ _ _ c.running.invariant.4 c.running.invariant.2 _ at c.instruction-insn.ensures.cell _ _ _ does) (let e : c.running.state.place - c.args.from + 1 ≡ c.running.state.place + 1 - c.args.from = omega arith in e) refl,
     )
+
+pub overflow_add-state : goal.overflow_add-state
+overflow_add-state g c = grind (arith, common_steps)
 
 pub overflow_add-state-in-Skip : goal.overflow_add-state-in-Skip
 overflow_add-state-in-Skip g c =
@@ -46,3 +50,6 @@ returns-in-End-clause-steps g c =
     let at = rw c.running.invariant.0 at (rw c.make_ready.ensures.words_kept at (rw c.word-word.ensures.words_kept at c.instruction-insn.ensures.instruction)) in let low = c.running.invariant.3 in let does = sym (c.step_apart-step.ensures.effect c.instruction-insn.result c.instruction-insn.ensures.decoded) ∙ ap (λ (n : Next). effect_of n c.step_apart-step.result.a c.step_apart-step.result.x c.step_apart-step.new.cells) c.in-End.is in
     (let e : c.running.state.place + 1 - c.args.from - c.running.state.passed_over ≡ c.running.state.place - c.args.from + 1 - c.running.state.passed_over = omega arith in e)
     ∙ sym (ap (λ (run : Run). run.1) (running_end _ c.args.packet.now c.requires.accepted (c.running.state.place - c.args.from) c.running.state.passed_over _ _ _ c.running.invariant.4 c.running.invariant.2 _ at c.instruction-insn.ensures.cell _ does))
+
+pub returns-in-End-clause-within_length : goal.returns-in-End-clause-within_length
+returns-in-End-clause-within_length g c = grind (arith, common_steps)
