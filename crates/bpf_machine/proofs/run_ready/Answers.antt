@@ -1,4 +1,5 @@
 use Rattle.std.proofs.Common.{◌≡◌, ◌∙◌, ◌+◌, ◌-◌, ap, arith, inr, refl, sym}
+use Rattle.std.proofs.lemmas.Grind.{common_steps}
 use Rattle.bpf_verify.proofs.PlaceLemmas.{length-program_at}
 use Rattle.bpf_machine.specs.Meaning.{Run}
 use Rattle.bpf_machine.proofs.ArrayLemmas.{running_end, running_go_on, running_next, running_skip}
@@ -55,3 +56,18 @@ returns-in-End-clause-steps g c =
     let at = rw c.ready.invariant.0 at (rw c.ready_word-word.ensures.words_kept at c.instruction-insn.ensures.instruction) in let low = c.ready.invariant.3 in
     (let e : c.ready.number + 1 - c.args.ready.shift - c.args.from - c.ready.passed_over ≡ c.ready.number - c.args.ready.shift - c.args.from + 1 - c.ready.passed_over = omega arith in e)
     ∙ sym (ap (λ (run : Run). run.1) (running_end _ c.args.packet.now c.requires.accepted (c.ready.number - c.args.ready.shift - c.args.from) c.ready.passed_over _ _ _ c.ready.invariant.4 c.ready.invariant.2 _ at c.instruction-insn.ensures.cell _ (sym c.in-End.ensures.effect)))
+
+pub is_ready-requires : goal.is_ready-requires
+is_ready-requires g c = grind (arith, common_steps)
+
+pub ready_word-word-requires : goal.ready_word-word-requires
+ready_word-word-requires g c = grind (arith, common_steps)
+
+pub instruction-insn-requires-clause-inside : goal.instruction-insn-requires-clause-inside
+instruction-insn-requires-clause-inside g c = grind (arith, common_steps)
+
+pub returns-in-End-clause-inside : goal.returns-in-End-clause-inside
+returns-in-End-clause-inside g c = grind (arith, common_steps)
+
+pub returns-clause-inside : goal.returns-clause-inside
+returns-clause-inside g c = grind (arith, common_steps)
