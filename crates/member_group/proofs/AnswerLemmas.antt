@@ -1,6 +1,6 @@
 -- Answers to commands.
-use Rattle.std.proofs.Common.{◌<◌, ◌≡◌, ◌≤◌, ◌∙◌, Bool, Err, List, None, Ok, Result, Some, ap, false, get_or, length, refl, set, sym, true, ℕ}
-use Rattle.std.specs.Prelude.{IsErrAnd, Option, is_none, is_some}
+use Rattle.std.proofs.Common.{◌<◌, ◌≡◌, ◌≤◌, ◌∙◌, Bool, Err, List, None, Ok, Result, Some, ap, false, get_or, length, refl, sym, true, ℕ}
+use Rattle.std.specs.Prelude.{IsErr, IsErrAnd, OnErr, OnOk, Option, is_none, is_some}
 use Rattle.std.proofs.lemmas.Bool.{le-leb, lt-leb}
 use Rattle.std.proofs.lemmas.List.{get_or_read}
 use Rattle.member_group.specs.declared.TheConstants.{GROUP_LIMIT, MEMBER_LIMIT}
@@ -8,13 +8,12 @@ use Rattle.member_group.specs.declared.member.Member.{Member}
 use Rattle.member_group.specs.declared.refusal.Refusal.{Refusal}
 use Rattle.member_group.specs.declared.refusal.Refusal.TheVariants.{GroupExists, GroupFull, Locked, MemberExists, NoGroup, NoMember, NoProgram, OutOfMemory, TooManyGroups}
 use Rattle.ipv4_fields.specs.declared.endpoint.Endpoint.{Endpoint}
-use Rattle.member_group.specs.Command.{with_changed}
 use Rattle.member_group.specs.declared.command.Command.TheVariants.{AddGroup, RemoveGroup}
 use Rattle.member_group.specs.Group.{GroupOf, group_of, has_id, has_key, member_of}
 use Rattle.member_group.specs.Place.{IsGapFor, IsNowhere, IsOnlyAt}
 use Rattle.member_group.specs.Refusal.{IsAnswer, clear_filter_causes, first_of, first_refusal, in_group, join_causes, lacks_member, member_causes, set_filter_causes}
 use Rattle.member_group.proofs.ConfigLemmas.{group_of-gap}
-use Rattle.member_group.proofs.ListLemmas.{element_at, find-nowhere, find-only_at, map-only_at}
+use Rattle.member_group.proofs.ListLemmas.{element_at, find-nowhere, find-only_at}
 
 -- ---- the three kinds of answer
 
@@ -30,6 +29,16 @@ memory_answer None value (Ok made) none told = absurd told
 pub made_answer : {V : Type 0} (first : Option Refusal) (value made : V) → first ≡ None → made ≡ value → IsAnswer first value (Ok made)
 made_answer (Some other) value made none is = cc
 made_answer None value made none is = is
+
+-- ---- a result of which one case is known
+
+pub on_err : {V E K : Type 0} (result : Result V E) → K → OnErr result K
+on_err (Ok made) kept = tt
+on_err (Err refusal) kept = kept
+
+pub not_ok : {V E : Type 0} (K : Type 0) (result : Result V E) → IsErr result → OnOk result K
+not_ok K (Ok made) is = cc
+not_ok K (Err refusal) is = tt
 
 -- ---- whether a member is there
 
@@ -90,7 +99,7 @@ clear_filter_refused id group none = rw (find-nowhere (has_id id) group.members 
 
 -- ---- answers of a group, passed on
 
-made_without_refusal : {V : Type 0} (first : Option Refusal) (value made : V) → IsAnswer first value (Ok made) → first ≡ None
+pub made_without_refusal : {V : Type 0} (first : Option Refusal) (value made : V) → IsAnswer first value (Ok made) → first ≡ None
 made_without_refusal (Some refusal) value made answer = cc
 made_without_refusal None value made answer = refl
 
@@ -112,12 +121,6 @@ no_group causes found value refusal (Err passed) absent told = rw absent.1 (ap (
 pub group_refused : {P W : Type 0} (causes : GroupOf P → List (Bool × Refusal)) (change : GroupOf P → GroupOf P) (key : Endpoint) (config : List (GroupOf P)) (at : ℕ) (group : GroupOf P) (value : W) (refusal : Refusal) (result : Result W Refusal) → IsOnlyAt (has_key key) config at → group ≡ get_or config at group → IsAnswer (first_of (causes group)) (change group) (Err refusal) → IsErrAnd result (λ passed. passed ≡ refusal) → IsAnswer (in_group causes (group_of key config)) value result
 group_refused causes change key config at group value refusal result only is answer told =
     rw (find-only_at (has_key key) config at group is only) (passed_on (first_of (causes group)) (change group) value refusal result answer told)
-
-pub group_changed : {P : Type 0} (causes : GroupOf P → List (Bool × Refusal)) (change : GroupOf P → GroupOf P) (key : Endpoint) (config : List (GroupOf P)) (at : ℕ) (group changed : GroupOf P) (result : Result (List (GroupOf P)) Refusal) → IsOnlyAt (has_key key) config at → group ≡ get_or config at group → IsAnswer (first_of (causes group)) (change group) (Ok changed) → IsAnswer None (set config at changed) result → IsAnswer (in_group causes (group_of key config)) (with_changed key change config) result
-group_changed causes change key config at group changed result only is answer made =
-    let none : first_of (causes group) ≡ None = made_without_refusal (first_of (causes group)) (change group) changed answer in
-    let same : changed ≡ change group = made_value (first_of (causes group)) (change group) changed answer in
-    rw (find-only_at (has_key key) config at group is only, none, map-only_at (has_key key) change config at group is only, ← same) made
 
 pub same_key : {P : Type 0} (first : Option Refusal) (value group changed : GroupOf P) (config : List (GroupOf P)) (at : ℕ) → at < length config → group ≡ get_or config at group → IsAnswer first value (Ok changed) → value.key ≡ group.key → (get_or config at changed).key ≡ changed.key
 same_key {P} first value group changed config at inside is answer kept =

@@ -132,7 +132,7 @@ sum_of_group-left measure group at member inside is =
       sum_by-swap_remove (of_member measure) group.members at member inside,
     )
 
-length-last_in_gap : {X : Type 0} (at : ℕ) (xs : List X) (d : X) → at < length xs → length (last_in_gap at xs) + 1 ≡ length xs
+pub length-last_in_gap : {X : Type 0} (at : ℕ) (xs : List X) (d : X) → at < length xs → length (last_in_gap at xs) + 1 ≡ length xs
 length-last_in_gap at xs d inside =
     let last = length xs - 1 in
     let size = length-set xs at (get_or xs last d) in

@@ -1,9 +1,9 @@
 -- What the changes of a configuration come to where the group stands, and that they keep it a configuration.
-use Rattle.std.proofs.Common.{◌++◌, ◌+◌, ◌-◌, ◌<◌, ◌∙◌, ◌∷◌, ◌≡◌, List, None, [], ap, arith, drop, get_or, inl, inr, length, length-set, refl, set, suc, sym, take, ℕ}
+use Rattle.std.proofs.Common.{◌++◌, ◌+◌, ◌-◌, ◌<◌, ◌∙◌, ◌∷◌, ◌≡◌, List, None, [], ap, arith, drop, get_or, inl, inr, length, length-set, refl, set, suc, take, ℕ}
 use Rattle.std.specs.Prelude.{nat_lt, not}
 use Rattle.std.specs.List.{All, filter, remove}
 use Rattle.std.proofs.lemmas.Bool.{cases_lt, le-ltb, lt-ltb, ltb-true}
-use Rattle.std.proofs.lemmas.List.{get_or-drop, get_or-take, get_or_default, length-append, length-drop, length-take-le, set_split, take_rest}
+use Rattle.std.proofs.lemmas.List.{get_or-drop, get_or-take, get_or_default, length-append, length-drop, length-take-le, take_rest}
 use Rattle.std.proofs.lemmas.List.Elements.{All-append, All-cons, All-filter, All-set, filter_passes}
 use Rattle.std.proofs.lemmas.List.Filters.{length-filter_both}
 use Rattle.std.proofs.lemmas.List.Kept.{AllPairs-cons, AllPairs-filter}
@@ -14,7 +14,7 @@ use Rattle.member_group.specs.declared.TheConstants.{GROUP_LIMIT}
 use Rattle.member_group.specs.Command.{with_group, without_group}
 use Rattle.member_group.specs.Group.{GroupOf, IsConfig, IsGroup, group_of, has_key}
 use Rattle.member_group.specs.Place.{IsGapFor}
-use Rattle.member_group.proofs.ListLemmas.{AllPairs-append, AllPairs-set, appended_pieces, filter-back, filter-front, find-nowhere}
+use Rattle.member_group.proofs.ListLemmas.{AllPairs-append, AllPairs-set, filter-back, filter-front, find-nowhere}
 use Rattle.member_group.proofs.PlaceLemmas.{not_equal}
 
 -- ---- another group of the same key
@@ -96,18 +96,6 @@ removed_is_config key config is_config =
     }
 
 -- ---- a configuration in pieces
-
-pub replaced_pieces : {X : Type 0} (config : List X) (at : ℕ) (group : X) (empty front more whole : List X) → at < length config → empty ≡ [] → front ≡ empty ++ take at config → more ≡ front ++ group ∷ [] → whole ≡ more ++ take (length config - (at + 1)) (drop (at + 1) config) → whole ≡ set config at group
-replaced_pieces config at group empty front more whole inside none first second third =
-    let rest = rw (take_rest config (at + 1)) at third in
-    let next : at + 1 ≡ suc at = omega arith in
-    appended_pieces [] (take at config) (drop (at + 1) config) (set config at group) group front more whole (rw none at first) second rest
-    (ap (λ n. take at config ++ group ∷ drop n config) next ∙ sym (set_split config at group inside))
-
-pub added_pieces : {X : Type 0} (config : List X) (at : ℕ) (group : X) (empty front more whole : List X) → empty ≡ [] → front ≡ empty ++ take at config → more ≡ front ++ group ∷ [] → whole ≡ more ++ take (length config - at) (drop at config) → whole ≡ take at config ++ group ∷ drop at config
-added_pieces config at group empty front more whole none first second third =
-    let rest = rw (take_rest config at) at third in
-    appended_pieces [] (take at config) (drop at config) (take at config ++ group ∷ drop at config) group front more whole (rw none at first) second rest refl
 
 pub removed_pieces : {X : Type 0} (config : List X) (at : ℕ) (empty front whole : List X) → empty ≡ [] → front ≡ empty ++ take at config → whole ≡ front ++ take (length config - (at + 1)) (drop (at + 1) config) → whole ≡ remove config at
 removed_pieces config at empty front whole none first second =

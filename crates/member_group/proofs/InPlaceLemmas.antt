@@ -1,6 +1,6 @@
 -- What a command on a group comes to in a configuration that has it at a place.
-use Rattle.std.proofs.Common.{◌<◌, ◌∙◌, ◌≡◌, Err, List, Ok, Result, ap, get_or, length, refl, set, sym, ℕ}
-use Rattle.std.specs.Prelude.{OnErr, OnOk}
+use Rattle.std.proofs.Common.{◌<◌, ◌∙◌, ◌≡◌, Err, List, None, Ok, Result, ap, get_or, length, refl, set, sym, ℕ}
+use Rattle.std.specs.Prelude.{IsErrAnd, OnErr, OnOk}
 use Rattle.bpf_verify.specs.Program.{ProgramValue}
 use Rattle.ipv4_fields.specs.declared.endpoint.Endpoint.{Endpoint}
 use Rattle.std.proofs.lemmas.List.{get_or_read}
@@ -12,6 +12,8 @@ use Rattle.member_group.specs.body.InPlace.{IsOnGroup, causes_of, changed_by}
 use Rattle.member_group.specs.declared.command.Command.{Command}
 use Rattle.member_group.specs.declared.command.Command.TheVariants.{AddGroup, ClearFilter, ClearSelector, Join, Leave, LockFilter, RemoveGroup, SetFilter, SetSelector}
 use Rattle.member_group.specs.declared.refusal.Refusal.{Refusal}
+use Rattle.member_group.specs.declared.refusal.Refusal.TheVariants.{NoGroup}
+use Rattle.member_group.proofs.AnswerLemmas.{group_refused, made_value, made_without_refusal, no_group}
 use Rattle.member_group.proofs.ConfigLemmas.{replaced_is_config}
 use Rattle.member_group.proofs.ListLemmas.{find-only_at, map-only_at}
 
@@ -37,7 +39,7 @@ after_on_group key (SetFilter other id program) config on = rw on refl
 after_on_group key (ClearFilter other id) config on = rw on refl
 after_on_group key (LockFilter other id) config on = rw on refl
 
-key_kept : {P : Type 0} (command : Command P) (group : GroupOf P) → (changed_by command group).key ≡ group.key
+pub key_kept : {P : Type 0} (command : Command P) (group : GroupOf P) → (changed_by command group).key ≡ group.key
 key_kept (AddGroup key) group = refl
 key_kept (RemoveGroup key) group = refl
 key_kept (Join key id to) group = refl
@@ -61,6 +63,23 @@ module _ {P : Type 0} (key : Endpoint) (command : Command P) (config : List (Gro
   pub group_set_at : {V E : Type 0} (there : List (GroupOf P)) (changed : GroupOf P) (result : Result V E) → there ≡ config → OnOk result (changed ≡ changed_by command group) → OnOk result (set there at changed ≡ after command config)
   group_set_at there changed (Ok done) same is_changed = ap (λ (groups : List (GroupOf P)). set groups at changed) same ∙ group_set changed is_changed
   group_set_at there changed (Err refusal) same refused = tt
+
+  pub group_refused_by : {W : Type 0} (value : W) (refusal : Refusal) (result : Result W Refusal) → IsAnswer (first_of (causes_of command group)) (changed_by command group) (Err refusal) → IsErrAnd result (λ passed. passed ≡ refusal)
+      → IsAnswer (first_refusal command config) value result
+  group_refused_by value refusal result answer told =
+      rw (refusal_on_group key command config on) (group_refused (causes_of command) (changed_by command) key config at group value refusal result only is answer told)
+
+  pub none_refused : (changed : GroupOf P) → IsAnswer (first_of (causes_of command group)) (changed_by command group) (Ok changed) → first_refusal command config ≡ None
+  none_refused changed answer =
+      rw (refusal_on_group key command config on, find-only_at (has_key key) config at group is only) (made_without_refusal (first_of (causes_of command group)) (changed_by command group) changed answer)
+
+  pub group_changed_by : (changed : GroupOf P) (made : List (GroupOf P)) → IsAnswer (first_of (causes_of command group)) (changed_by command group) (Ok changed) → made ≡ set config at changed → made ≡ after command config
+  group_changed_by changed made answer is_made = is_made ∙ group_set changed (made_value (first_of (causes_of command group)) (changed_by command group) changed answer)
+
+pub group_missing : {P W : Type 0} (key : Endpoint) (command : Command P) (config : List (GroupOf P)) → IsOnGroup key command → (value : W) (refusal : Refusal) (result : Result W Refusal) → (refusal ≡ NoGroup) × (group_of key config ≡ None)
+    → IsErrAnd result (λ passed. passed ≡ refusal) → IsAnswer (first_refusal command config) value result
+group_missing key command config on value refusal result absent told =
+    rw (refusal_on_group key command config on) (no_group (causes_of command) (group_of key config) value refusal result absent told)
 
 -- the group has its key, whether it was changed or the command refused
 same_group_key : {P V E : Type 0} (command : Command P) (group new : GroupOf P) (result : Result V E) → OnOk result (new ≡ changed_by command group) → OnErr result (new ≡ group) → new.key ≡ group.key

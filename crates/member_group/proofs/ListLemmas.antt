@@ -4,7 +4,7 @@ use Rattle.std.specs.Prelude.{if◌then◌else◌, None, Some, nat_lt, not, slic
 use Rattle.std.specs.List.{All, AllPairs, filter, find, remove, swap_remove}
 use Rattle.std.proofs.Math.Seq.{drop-cons}
 use Rattle.std.proofs.lemmas.Bool.{cases_eq, le-ltb, lt-ltb}
-use Rattle.std.proofs.lemmas.List.{drop-take, drop_all, get_or-set_other, get_or-set_same, get_or-take, get_or_read, length-take, length-take-le, set_split, take-append-drop, take-set-le, take-take, take_all, take_more}
+use Rattle.std.proofs.lemmas.List.{drop-take, drop_all, get_or-set_other, get_or-set_same, get_or-take, get_or_read, length-take, length-take-le, set_split, take-append-drop, take-set-le, take-take, take_all, take_more, take_rest}
 use Rattle.std.proofs.lemmas.List.Elements.{All-append, filter-append}
 use Rattle.std.proofs.lemmas.List.Kept.{AllPairs-cons}
 use Rattle.member_group.specs.Place.{IsNowhere, IsOnlyAt, last_in_gap}
@@ -135,6 +135,17 @@ last_in_gap-inner at xs x inner is =
 
 pub last_in_gap-end : {X : Type 0} (at : ℕ) (xs : List X) → suc at ≡ length xs → last_in_gap at xs ≡ take at xs
 last_in_gap-end at xs end = rw (le-ltb at (length xs - 1) (omega arith)) refl
+
+-- the pieces of it, appended one after the other
+pub appended_in_gap : {X : Type 0} (at : ℕ) (xs old a b c : List X) → at < length xs - 1 → a ≡ old ++ take at xs → b ≡ a ++ take (length xs - (length xs - 1)) (drop (length xs - 1) xs) → c ≡ b ++ slice_range xs (at + 1) (length xs - 1)
+    → c ≡ old ++ last_in_gap at xs
+appended_in_gap {X} at xs old a b c inner first second third =
+    let last = length xs - 1 in
+    let middle : List X = slice_range xs (at + 1) last in
+    let is_inner : nat_lt at last ≡ true = lt-ltb at last inner in
+    let both : b ≡ (old ++ take at xs) ++ drop last xs = second ∙ ap (λ list. a ++ list) (take_rest xs last) ∙ ap (λ list. list ++ drop last xs) first in
+    rw is_inner
+    (third ∙ ap (λ list. list ++ middle) both ∙ append_assoc (old ++ take at xs) (drop last xs) middle ∙ append_assoc old (take at xs) (drop last xs ++ middle))
 
 take-set-lt : {X : Type 0} (n : ℕ) (xs : List X) (i : ℕ) (y : X) → i < n → take n (set xs i y) ≡ set (take n xs) i y
 take-set-lt zero xs i y less = absurd (omega arith)

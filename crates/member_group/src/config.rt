@@ -1,12 +1,13 @@
 //! Configurations: groups in rising order of key.
 
-ghost use Rattle.std.specs.Prelude.{◌≡◌, ◌+◌, ◌<◌, ◌≤◌, ◌++◌, Err, IfErr, IfNone, IfOk, IfSome, IsOkUnless, None, OnOk, [], length, slice_index_or, slice_set};
+ghost use Rattle.std.specs.Prelude.{◌≡◌, ◌+◌, ◌<◌, ◌≤◌, ◌++◌, Err, IfErr, IfNone, IfOk, IfSome, IsOkUnless, None, OnErr, OnOk, Some, [], length, slice_index_or, slice_set};
 ghost use Rattle.member_group.specs.Charge.{charge_of, members_of};
 ghost use Rattle.member_group.specs.Command.{after, with_group, without_group};
 ghost use Rattle.member_group.specs.Group.{IsConfig, IsGroup, group_of, has_key};
 ghost use Rattle.member_group.specs.Map.{ChangesTheMapAtItsKey, IsOneListAMap, KeepsTheMapElsewhere};
 ghost use Rattle.member_group.specs.Place.{IsGapFor, IsOnlyAt};
 ghost use Rattle.member_group.specs.Refusal.{IsAnswer, first_refusal};
+ghost use Rattle.member_group.specs.body.InPlace.{IsOnGroup};
 ghost use Rattle.member_group.specs.declared.TheConstants.{GROUP_LIMIT};
 ghost use Rattle.member_group.specs.declared.command.Command.TheVariants as command;
 ghost use Rattle.member_group.specs.declared.refusal.Refusal.TheVariants as refusal_of;
@@ -119,33 +120,27 @@ impl<A: Allocator + Clone> Config<A> {
         }
     }
 
-    // This configuration with another group, of the same key, at a place.
-    fn with_group_at(&self, at: usize, group: Group<A>) -> Result<Config<A>, Refusal>
-        requires inside { at < length self.now }
-        requires same_key { (slice_index_or self.now at group).key ≡ group.key }
-        requires group { IsGroup group }
-        ensures changed { IsAnswer None (slice_set self.now at group) result }
+    // A copy, with room for this many groups more.
+    fn copy_with_room(&self, more: usize) -> Result<Config<A>, OutOfMemory>
+        requires few { more ≤ 1 }
+        ensures copied { IfOk result (λ copy. copy ≡ self.now) }
     {
         let old = self.groups();
-        let mut groups = self.room_for_groups(old.len())?;
-        append_groups(&mut groups, &old[..at])?;
-        groups.push(group)?;
-        append_groups(&mut groups, &old[at + 1..])?;
+        let mut groups = self.room_for_groups(old.len() + more)?;
+        append_groups(&mut groups, old)?;
         Ok(Config { groups })
     }
 
-    // This configuration with a group without members in the gap for its key.
-    fn with_group(&self, at: usize, key: Endpoint) -> Result<Config<A>, OutOfMemory>
-        requires room { length self.now < GROUP_LIMIT }
-        requires gap { IsGapFor key self.now at }
-        ensures changed { IfOk result (λ config. config ≡ with_group key self.now) }
+    // This configuration with another group, of the same key, at a place.
+    fn with_group_at(&self, at: usize, group: Group<A>) -> Result<Config<A>, OutOfMemory>
+        requires inside { at < length self.now }
+        requires same_key { (slice_index_or self.now at group).key ≡ group.key }
+        requires group { IsGroup group }
+        ensures changed { IfOk result (λ config. config ≡ slice_set self.now at group) }
     {
-        let old = self.groups();
-        let mut groups = self.room_for_groups(old.len() + 1)?;
-        append_groups(&mut groups, &old[..at])?;
-        groups.push(Group::new(key, self.allocator().clone()?)?)?;
-        append_groups(&mut groups, &old[at..])?;
-        Ok(Config { groups })
+        let mut next = self.copy_with_room(0)?;
+        next.groups[at] = group;
+        Ok(next)
     }
 
     // This configuration without the group at a place, which is the key's.
@@ -160,8 +155,11 @@ impl<A: Allocator + Clone> Config<A> {
         Ok(Config { groups })
     }
 
-    fn add_group(&self, key: Endpoint) -> Result<Config<A>, Refusal>
-        ensures answer { IsAnswer (first_refusal (command.AddGroup key) self.now) (after (command.AddGroup key) self.now) result }
+    // The place of the gap for the key of a group that may be added.
+    fn gap_for(&self, key: Endpoint) -> Result<usize, Refusal>
+        ensures gap { IfOk result (IsGapFor key self.now) }
+        ensures added { IfOk result (λ _. (length self.now < GROUP_LIMIT) × (first_refusal (command.AddGroup key) self.now ≡ None)) }
+        ensures refused { IfErr result (λ refusal. first_refusal (command.AddGroup key) self.now ≡ Some refusal) }
     {
         let at = match place_of_key(self.groups(), key) {
             Ok(_taken) => return Err(Refusal::GroupExists),
@@ -170,7 +168,28 @@ impl<A: Allocator + Clone> Config<A> {
         if self.groups().len() >= GROUP_LIMIT {
             return Err(Refusal::TooManyGroups);
         }
-        Ok(self.with_group(at, key)?)
+        Ok(at)
+    }
+
+    // Adds a group without members in the gap for its key.
+    fn insert_group(&mut self, at: usize, key: Endpoint) -> Result<(), OutOfMemory>
+        requires room { length self.old < GROUP_LIMIT }
+        requires gap { IsGapFor key self.old at }
+        ensures changed { OnOk result (self.new ≡ with_group key self.old) }
+        ensures kept { OnErr result (self.new ≡ self.old) }
+    {
+        let group = Group::new(key, self.allocator().clone()?)?;
+        self.groups.insert(at, group)?;
+        Ok(())
+    }
+
+    fn add_group(&self, key: Endpoint) -> Result<Config<A>, Refusal>
+        ensures answer { IsAnswer (first_refusal (command.AddGroup key) self.now) (after (command.AddGroup key) self.now) result }
+    {
+        let at = self.gap_for(key)?;
+        let mut next = self.copy_with_room(1)?;
+        next.insert_group(at, key)?;
+        Ok(next)
     }
 
     fn remove_group(&self, key: Endpoint) -> Result<Config<A>, Refusal>
@@ -180,69 +199,18 @@ impl<A: Allocator + Clone> Config<A> {
         Ok(self.without_group(at, key)?)
     }
 
-    fn join(&self, key: Endpoint, member: u32, to: Endpoint) -> Result<Config<A>, Refusal>
-        ensures answer { IsAnswer (first_refusal (command.Join key member to) self.now) (after (command.Join key member to) self.now) result }
-    {
-        let at = self.place_of_group(key)?;
-        let group = self.groups()[at].join(member, to)?;
-        self.with_group_at(at, group)
-    }
-
-    fn leave(&self, key: Endpoint, member: u32) -> Result<Config<A>, Refusal>
-        ensures answer { IsAnswer (first_refusal (command.Leave key member) self.now) (after (command.Leave key member) self.now) result }
-    {
-        let at = self.place_of_group(key)?;
-        let group = self.groups()[at].leave(member)?;
-        self.with_group_at(at, group)
-    }
-
-    fn set_selector<B: Allocator>(
+    // The configuration after a command on the group of a key.
+    fn apply_to_group<B: Allocator>(
         &self,
         key: Endpoint,
-        program: &Program<B>,
+        command: &Command<Program<B>>,
     ) -> Result<Config<A>, Refusal>
-        ensures answer { IsAnswer (first_refusal (command.SetSelector key program.now) self.now) (after (command.SetSelector key program.now) self.now) result }
+        requires { IsOnGroup key command.now }
+        ensures answer { IsAnswer (first_refusal command.now self.now) (after command.now self.now) result }
     {
         let at = self.place_of_group(key)?;
-        let group = self.groups()[at].set_selector(program)?;
-        self.with_group_at(at, group)
-    }
-
-    fn clear_selector(&self, key: Endpoint) -> Result<Config<A>, Refusal>
-        ensures answer { IsAnswer (first_refusal (command.ClearSelector key) self.now) (after (command.ClearSelector key) self.now) result }
-    {
-        let at = self.place_of_group(key)?;
-        let group = self.groups()[at].clear_selector()?;
-        self.with_group_at(at, group)
-    }
-
-    fn set_filter<B: Allocator>(
-        &self,
-        key: Endpoint,
-        member: u32,
-        program: &Program<B>,
-    ) -> Result<Config<A>, Refusal>
-        ensures answer { IsAnswer (first_refusal (command.SetFilter key member program.now) self.now) (after (command.SetFilter key member program.now) self.now) result }
-    {
-        let at = self.place_of_group(key)?;
-        let group = self.groups()[at].set_filter(member, program)?;
-        self.with_group_at(at, group)
-    }
-
-    fn clear_filter(&self, key: Endpoint, member: u32) -> Result<Config<A>, Refusal>
-        ensures answer { IsAnswer (first_refusal (command.ClearFilter key member) self.now) (after (command.ClearFilter key member) self.now) result }
-    {
-        let at = self.place_of_group(key)?;
-        let group = self.groups()[at].clear_filter(member)?;
-        self.with_group_at(at, group)
-    }
-
-    fn lock_filter(&self, key: Endpoint, member: u32) -> Result<Config<A>, Refusal>
-        ensures answer { IsAnswer (first_refusal (command.LockFilter key member) self.now) (after (command.LockFilter key member) self.now) result }
-    {
-        let at = self.place_of_group(key)?;
-        let group = self.groups()[at].lock_filter(member)?;
-        self.with_group_at(at, group)
+        let group = self.groups()[at].changed(command)?;
+        Ok(self.with_group_at(at, group)?)
     }
 
     /// Returns the configuration after a command. This one does not change, even if the command is refused.
@@ -257,17 +225,13 @@ impl<A: Allocator + Clone> Config<A> {
         match command {
             Command::AddGroup { key } => self.add_group(*key),
             Command::RemoveGroup { key } => self.remove_group(*key),
-            Command::Join { key, member, to } => self.join(*key, *member, *to),
-            Command::Leave { key, member } => self.leave(*key, *member),
-            Command::SetSelector { key, program } => self.set_selector(*key, program),
-            Command::ClearSelector { key } => self.clear_selector(*key),
-            Command::SetFilter {
-                key,
-                member,
-                program,
-            } => self.set_filter(*key, *member, program),
-            Command::ClearFilter { key, member } => self.clear_filter(*key, *member),
-            Command::LockFilter { key, member } => self.lock_filter(*key, *member),
+            Command::Join { key, .. }
+            | Command::Leave { key, .. }
+            | Command::SetSelector { key, .. }
+            | Command::ClearSelector { key }
+            | Command::SetFilter { key, .. }
+            | Command::ClearFilter { key, .. }
+            | Command::LockFilter { key, .. } => self.apply_to_group(*key, command),
         }
     }
 }

@@ -10,10 +10,12 @@ ghost use Rattle.member_group.specs.Command.{joined, left, locked, with_filter, 
 ghost use Rattle.member_group.specs.Group.{IsGroup, has_id};
 ghost use Rattle.member_group.specs.Place.{IsOnlyAt, last_in_gap};
 ghost use Rattle.member_group.specs.Refusal.{IsAnswer, clear_filter_causes, clear_selector_causes, first_of, join_causes, member_causes, set_filter_causes};
+ghost use Rattle.member_group.specs.body.InPlace.{causes_of, changed_by};
 
 mod in_place;
 
 use crate::MEMBER_LIMIT;
+use crate::command::Command;
 use crate::counted::{charge_of_parts, words_of_parts};
 use crate::member::{
     Member, append_members, append_with_last_in_gap, append_with_member_at, copy_member,
@@ -264,7 +266,7 @@ impl<A: Allocator + Clone> Group<A> {
         )
     }
 
-    pub(crate) fn join(&self, id: u32, to: Endpoint) -> Result<Group<A>, Refusal>
+    fn join(&self, id: u32, to: Endpoint) -> Result<Group<A>, Refusal>
         requires group { IsGroup self.now }
         ensures answer { IsAnswer (first_of (join_causes id self.now)) (joined id to self.now) result }
         ensures group { IfOk result IsGroup }
@@ -278,7 +280,7 @@ impl<A: Allocator + Clone> Group<A> {
         Ok(self.with_member(id, to)?)
     }
 
-    pub(crate) fn leave(&self, id: u32) -> Result<Group<A>, Refusal>
+    fn leave(&self, id: u32) -> Result<Group<A>, Refusal>
         requires group { IsGroup self.now }
         ensures answer { IsAnswer (first_of (member_causes id self.now)) (left id self.now) result }
         ensures group { IfOk result IsGroup }
@@ -289,10 +291,7 @@ impl<A: Allocator + Clone> Group<A> {
         Ok(self.without_member(at)?)
     }
 
-    pub(crate) fn set_selector<B: Allocator>(
-        &self,
-        program: &Program<B>,
-    ) -> Result<Group<A>, Refusal>
+    fn set_selector<B: Allocator>(&self, program: &Program<B>) -> Result<Group<A>, Refusal>
         requires group { IsGroup self.now }
         ensures answer { IsAnswer None (with_selector (Some program.now) self.now) result }
         ensures group { IfOk result IsGroup }
@@ -301,7 +300,7 @@ impl<A: Allocator + Clone> Group<A> {
         Ok(self.with_selector(Some(selector))?)
     }
 
-    pub(crate) fn clear_selector(&self) -> Result<Group<A>, Refusal>
+    fn clear_selector(&self) -> Result<Group<A>, Refusal>
         requires group { IsGroup self.now }
         ensures answer { IsAnswer (first_of (clear_selector_causes self.now)) (with_selector None self.now) result }
         ensures group { IfOk result IsGroup }
@@ -312,11 +311,7 @@ impl<A: Allocator + Clone> Group<A> {
         Ok(self.with_selector(None)?)
     }
 
-    pub(crate) fn set_filter<B: Allocator>(
-        &self,
-        id: u32,
-        program: &Program<B>,
-    ) -> Result<Group<A>, Refusal>
+    fn set_filter<B: Allocator>(&self, id: u32, program: &Program<B>) -> Result<Group<A>, Refusal>
         requires group { IsGroup self.now }
         ensures answer { IsAnswer (first_of (set_filter_causes id self.now)) (with_filter id (Some program.now) self.now) result }
         ensures group { IfOk result IsGroup }
@@ -331,7 +326,7 @@ impl<A: Allocator + Clone> Group<A> {
         Ok(self.with_filter(at, Some(filter))?)
     }
 
-    pub(crate) fn clear_filter(&self, id: u32) -> Result<Group<A>, Refusal>
+    fn clear_filter(&self, id: u32) -> Result<Group<A>, Refusal>
         requires group { IsGroup self.now }
         ensures answer { IsAnswer (first_of (clear_filter_causes id self.now)) (with_filter id None self.now) result }
         ensures group { IfOk result IsGroup }
@@ -349,7 +344,7 @@ impl<A: Allocator + Clone> Group<A> {
         Ok(self.with_filter(at, None)?)
     }
 
-    pub(crate) fn lock_filter(&self, id: u32) -> Result<Group<A>, Refusal>
+    fn lock_filter(&self, id: u32) -> Result<Group<A>, Refusal>
         requires group { IsGroup self.now }
         ensures answer { IsAnswer (first_of (member_causes id self.now)) (locked id self.now) result }
         ensures group { IfOk result IsGroup }
@@ -358,5 +353,30 @@ impl<A: Allocator + Clone> Group<A> {
             return Err(Refusal::NoMember);
         };
         Ok(self.with_lock(at)?)
+    }
+
+    /// Returns the group after a command on it. A command that adds or removes a group leaves it as it is.
+    pub(crate) fn changed<B: Allocator>(
+        &self,
+        command: &Command<Program<B>>,
+    ) -> Result<Group<A>, Refusal>
+        requires group { IsGroup self.now }
+        ensures answer { IsAnswer (first_of (causes_of command.now self.now)) (changed_by command.now self.now) result }
+        ensures group { IfOk result IsGroup }
+    {
+        match command {
+            Command::AddGroup { .. } | Command::RemoveGroup { .. } => Ok(self.copy()?),
+            Command::Join { member, to, .. } => self.join(*member, *to),
+            Command::Leave { member, .. } => self.leave(*member),
+            Command::SetSelector { program, .. } => self.set_selector(program),
+            Command::ClearSelector { .. } => self.clear_selector(),
+            Command::SetFilter {
+                member,
+                program,
+                ..
+            } => self.set_filter(*member, program),
+            Command::ClearFilter { member, .. } => self.clear_filter(*member),
+            Command::LockFilter { member, .. } => self.lock_filter(*member),
+        }
     }
 }

@@ -7,11 +7,8 @@ ghost use Rattle.member_group.specs.body.InPlace.{IsOnGroup};
 ghost use Rattle.member_group.specs.declared.command.Command.TheVariants as command;
 ghost use Rattle.member_group.specs.declared.refusal.Refusal.TheVariants as refusal_of;
 
-use super::{Config, append_groups};
-use crate::GROUP_LIMIT;
+use super::Config;
 use crate::command::Command;
-use crate::group::Group;
-use crate::place::place_of_key;
 use crate::refusal::Refusal;
 use bpf_verify::{OutOfMemory, Program};
 use ipv4_fields::Endpoint;
@@ -22,10 +19,7 @@ impl<A: Allocator + Clone> Config<A> {
     pub fn copy(&self) -> Result<Config<A>, OutOfMemory>
         ensures copied { IfOk result (λ copy. copy ≡ self.now) }
     {
-        let old = self.groups();
-        let mut groups = self.room_for_groups(old.len())?;
-        append_groups(&mut groups, old)?;
-        Ok(Config { groups })
+        self.copy_with_room(0)
     }
 
     fn add_in_place(&mut self, key: Endpoint) -> Result<(), Refusal>
@@ -33,15 +27,8 @@ impl<A: Allocator + Clone> Config<A> {
         ensures changed { OnOk result (self.new ≡ after (command.AddGroup key) self.old) }
         ensures kept { OnErr result (self.new ≡ self.old) }
     {
-        let at = match place_of_key(self.groups(), key) {
-            Ok(_taken) => return Err(Refusal::GroupExists),
-            Err(gap) => gap,
-        };
-        if self.groups().len() >= GROUP_LIMIT {
-            return Err(Refusal::TooManyGroups);
-        }
-        let group = Group::new(key, self.allocator().clone()?)?;
-        self.groups.insert(at, group)?;
+        let at = self.gap_for(key)?;
+        self.insert_group(at, key)?;
         Ok(())
     }
 
@@ -85,13 +72,13 @@ impl<A: Allocator + Clone> Config<A> {
         match command {
             Command::AddGroup { key } => self.add_in_place(*key),
             Command::RemoveGroup { key } => self.remove_in_place(*key),
-            Command::Join { key, .. } => self.change_group(*key, command),
-            Command::Leave { key, .. } => self.change_group(*key, command),
-            Command::SetSelector { key, .. } => self.change_group(*key, command),
-            Command::ClearSelector { key } => self.change_group(*key, command),
-            Command::SetFilter { key, .. } => self.change_group(*key, command),
-            Command::ClearFilter { key, .. } => self.change_group(*key, command),
-            Command::LockFilter { key, .. } => self.change_group(*key, command),
+            Command::Join { key, .. }
+            | Command::Leave { key, .. }
+            | Command::SetSelector { key, .. }
+            | Command::ClearSelector { key }
+            | Command::SetFilter { key, .. }
+            | Command::ClearFilter { key, .. }
+            | Command::LockFilter { key, .. } => self.change_group(*key, command),
         }
     }
 }

@@ -128,20 +128,13 @@ impl<A: Allocator + Clone> Group<A> {
         ensures kept { OnErr result (self.new ≡ self.old) }
         ensures group { IsGroup self.new }
     {
-        let next = match command {
-            Command::AddGroup { .. } | Command::RemoveGroup { .. } => return Ok(()),
-            Command::Join { member, to, .. } => return self.join_in_place(*member, *to),
-            Command::Leave { member, .. } => return self.leave_in_place(*member),
-            Command::SetSelector { program, .. } => self.set_selector(program),
-            Command::ClearSelector { .. } => self.clear_selector(),
-            Command::SetFilter {
-                member,
-                program,
-                ..
-            } => self.set_filter(*member, program),
-            Command::ClearFilter { member, .. } => self.clear_filter(*member),
-            Command::LockFilter { member, .. } => self.lock_filter(*member),
-        };
-        self.become_next(next)
+        match command {
+            Command::Join { member, to, .. } => self.join_in_place(*member, *to),
+            Command::Leave { member, .. } => self.leave_in_place(*member),
+            _ => {
+                let next = self.changed(command);
+                self.become_next(next)
+            },
+        }
     }
 }

@@ -1,29 +1,17 @@
-use Rattle.member_group.proofs.AnswerLemmas.{add_full, add_refused, adds, made_answer, memory_answer, refused_answer}
+use Rattle.std.proofs.Common.{◌∙◌, ap}
+use Rattle.member_group.specs.Command.{with_group}
+use Rattle.member_group.proofs.AnswerLemmas.{made_answer, memory_answer}
 use Rattle.member_group.proofs.config.Config.add_group.Goals as goal
 
-pub returns-in-Ok : goal.returns-in-Ok
-returns-in-Ok g c =
-    record { answer = refused_answer _ _ _ (add_refused c.args.key c.args.self.now c.in-Ok._taken (rw (← c.groups.ensures.groups) c.in-Ok.ensures.found)) }
+pub insert_group-requires : goal.insert_group-requires
+insert_group-requires g c = record { room = rw c.in_ok-next.ensures.copied c.in_ok-at.ensures.added.0; gap = rw c.in_ok-next.ensures.copied c.in_ok-at.ensures.gap }
 
-pub returns-then-groups-ge-GROUP_LIMIT : goal.returns-then-groups-ge-GROUP_LIMIT
-returns-then-groups-ge-GROUP_LIMIT g c =
-    record {
-      answer = refused_answer _ _ _
-          (add_full c.args.key c.args.self.now c.in-Err.gap (rw (← c.groups.ensures.groups) c.in-Err.ensures.absent) (rw (← c.groups-2.ensures.groups) c.if-groups-ge-GROUP_LIMIT.true));
-    }
+pub returns-in_err-next : goal.returns-in_err-next
+returns-in_err-next g c = record { answer = memory_answer _ _ _ c.in_ok-at.ensures.added.1 c.from_residual-in_err-next.ensures.1 }
 
-pub returns-in_err-with_group : goal.returns-in_err-with_group
-returns-in_err-with_group g c =
-    record {
-      answer = memory_answer _ _ _
-          (adds c.args.key c.args.self.now c.in-Err.gap (rw (← c.groups.ensures.groups) c.in-Err.ensures.absent) (rw (← c.groups-2.ensures.groups) c.if-groups-ge-GROUP_LIMIT.false))
-          c.from_residual.ensures.1;
-    }
+pub returns-in_err-insert_group : goal.returns-in_err-insert_group
+returns-in_err-insert_group g c = record { answer = memory_answer _ _ _ c.in_ok-at.ensures.added.1 c.from_residual-in_err-insert_group.ensures.1 }
 
 pub returns : goal.returns
 returns g c =
-    record {
-      answer = made_answer _ _ _
-          (adds c.args.key c.args.self.now c.in-Err.gap (rw (← c.groups.ensures.groups) c.in-Err.ensures.absent) (rw (← c.groups-2.ensures.groups) c.if-groups-ge-GROUP_LIMIT.false))
-          c.in_ok-with_group.ensures.changed;
-    }
+    record { answer = made_answer _ _ _ c.in_ok-at.ensures.added.1 (c.in_ok-insert_group.ensures.changed ∙ ap (with_group c.args.key) c.in_ok-next.ensures.copied) }

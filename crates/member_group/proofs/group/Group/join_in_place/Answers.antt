@@ -1,5 +1,5 @@
 use Rattle.std.proofs.Common.{arith, refl}
-use Rattle.member_group.proofs.AnswerLemmas.{join_full, join_refused, joins, made_answer, memory_answer, refused_answer}
+use Rattle.member_group.proofs.AnswerLemmas.{join_full, join_refused, joins, made_answer, memory_answer, not_ok, on_err, refused_answer}
 use Rattle.member_group.proofs.GroupLemmas.{joined_is_group}
 use Rattle.member_group.proofs.group.Group.join_in_place.Goals as goal
 
@@ -23,3 +23,21 @@ pub returns-clause-group : goal.returns-clause-group
 returns-clause-group g c =
     rw c.in_ok-add_member.ensures.changed
     (joined_is_group c.args.id c.args.to c.args.self.now (omega arith) (record { address = omega arith; port = omega arith }) c.requires.group (rw (← c.members.ensures.members) c.in_default.ensures.absent) (rw (← c.members-2.ensures.members) c.if-members-ge-MEMBER_LIMIT.false))
+
+pub place_of_member-requires : goal.place_of_member-requires
+place_of_member-requires g c = record { distinct = rw c.members.ensures.members c.requires.group.distinct }
+
+pub add_member-requires : goal.add_member-requires
+add_member-requires g c = record { group = c.requires.group; room = rw (← c.members-2.ensures.members) c.if-members-ge-MEMBER_LIMIT.false }
+
+pub returns-in_err-add_member-clause-changed : goal.returns-in_err-add_member-clause-changed
+returns-in_err-add_member-clause-changed g c = not_ok _ c.from_residual.result c.from_residual.ensures.0
+
+pub returns-in_err-add_member-clause-kept : goal.returns-in_err-add_member-clause-kept
+returns-in_err-add_member-clause-kept g c = on_err c.from_residual.result c.in_err-add_member.ensures.kept
+
+pub returns-in_err-add_member-clause-group : goal.returns-in_err-add_member-clause-group
+returns-in_err-add_member-clause-group g c = rw c.in_err-add_member.ensures.kept c.requires.group
+
+pub returns-clause-changed : goal.returns-clause-changed
+returns-clause-changed g c = c.in_ok-add_member.ensures.changed

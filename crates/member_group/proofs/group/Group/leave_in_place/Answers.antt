@@ -1,5 +1,5 @@
 use Rattle.std.proofs.Common.{◌∙◌, refl, sym}
-use Rattle.member_group.proofs.AnswerLemmas.{has_member, made_answer, memory_answer, no_member, refused_answer}
+use Rattle.member_group.proofs.AnswerLemmas.{has_member, made_answer, memory_answer, no_member, not_ok, on_err, refused_answer}
 use Rattle.member_group.proofs.GroupLemmas.{left-only_at, left_is_group}
 use Rattle.member_group.proofs.group.Group.leave_in_place.Goals as goal
 
@@ -23,3 +23,20 @@ pub returns-clause-group : goal.returns-clause-group
 returns-clause-group g c =
     let only = rw c.members.ensures.members at c.in-Some.ensures.found in
     rw c.in_ok-remove_member.ensures.changed (left_is_group c.args.self.now c.in-Some.at c.requires.group only.inside)
+
+pub place_of_member-requires : goal.place_of_member-requires
+place_of_member-requires g c = record { distinct = rw c.members.ensures.members c.requires.group.distinct }
+
+pub remove_member-requires : goal.remove_member-requires
+remove_member-requires g c =
+    let only = rw c.members.ensures.members at c.in-Some.ensures.found in
+    record { group = c.requires.group; inside = only.inside }
+
+pub returns-in_err-remove_member-clause-changed : goal.returns-in_err-remove_member-clause-changed
+returns-in_err-remove_member-clause-changed g c = not_ok _ c.from_residual.result c.from_residual.ensures.0
+
+pub returns-in_err-remove_member-clause-kept : goal.returns-in_err-remove_member-clause-kept
+returns-in_err-remove_member-clause-kept g c = on_err c.from_residual.result c.in_err-remove_member.ensures.kept
+
+pub returns-in_err-remove_member-clause-group : goal.returns-in_err-remove_member-clause-group
+returns-in_err-remove_member-clause-group g c = rw c.in_err-remove_member.ensures.kept c.requires.group
