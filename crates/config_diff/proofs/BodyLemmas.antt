@@ -1,5 +1,5 @@
 -- Commands that a list has more.
-use Rattle.std.proofs.Common.{◌+◌, ◌++◌, ◌-◌, ◌<◌, ◌≤◌, ◌∙◌, ◌∷◌, ◌≡◌, List, None, Some, [], ap, append-nil, append_assoc, get_or, length, map, refl, reverse, subst, sym, take, ℕ}
+use Rattle.std.proofs.Common.{◌+◌, ◌++◌, ◌-◌, ◌<◌, ◌≤◌, ◌∙◌, ◌∷◌, ◌≡◌, Bool, List, None, Some, [], ap, append-nil, append_assoc, false, get_or, length, map, refl, reverse, subst, sym, take, ℕ}
 use Rattle.std.specs.Prelude.{Option, flat_map, option_map}
 use Rattle.std.specs.Borrow.{Bor}
 use Rattle.std.proofs.lemmas.List.{get_or-reverse, length-reverse, map-append, reverse-append, take_all, take_more}
@@ -13,6 +13,7 @@ use Rattle.member_group.specs.declared.member.Member.{Member}
 use Rattle.member_group.specs.Over.{command_over}
 use Rattle.config_diff.specs.Words.{words_of_commands}
 use Rattle.config_diff.specs.body.Appended.{HasMore, words_member, words_program}
+use Rattle.config_diff.specs.body.Changes.{is_same_option, program_changes, set_or_clear}
 
 abbrev Lent : Type 0
 Lent = Command (Bor ProgramValue)
@@ -27,6 +28,11 @@ more_of_both a b c one two first second = record { more = second.more ∙ ap (λ
 
 pub more_of_push : (a b : List Lent) (command : Lent) → b ≡ a ++ command ∷ [] → HasMore a b (command_over (λ program. program.now.words) command ∷ [])
 more_of_push a b command pushed = record { more = ap words_of_commands pushed ∙ map-append (command_over (λ program. program.now.words)) a (command ∷ []) }
+
+-- a program is another one: one command sets or clears it
+pub more_of_other : {P : Type 0} (same : P → P → Bool) (set : P → Command P) (clear : Command P) (one other : Option P) → is_same_option same one other ≡ false →
+    set_or_clear set clear other ≡ program_changes same set clear one other
+more_of_other same set clear one other differs = rw differs refl
 
 pub no_more : (a : List Lent) → HasMore a a []
 no_more a = record { more = sym (append-nil (words_of_commands a)) }
@@ -51,7 +57,7 @@ more_of_all f v a b xs i all so_far =
 
 -- one member more leaves, from the last one on
 pub more_of_leaves : {Q : Type 0} (key : Endpoint) (a b c : List Lent) (members : List (Member Q)) (left : ℕ) (member : Member Q) → left < length members →
-    HasMore a b (map (λ member. Leave key member.id) (take left (reverse members))) → c ≡ b ++ Leave key (get_or members (length members - 1 - left) member).id ∷ [] →
+    HasMore a b (map (λ member. Leave key member.id) (take left (reverse members))) → HasMore b c (Leave key (get_or members (length members - 1 - left) member).id ∷ []) →
     HasMore a c (map (λ member. Leave key member.id) (take (left + 1) (reverse members)))
 more_of_leaves key a b c members left member inside so_far pushed =
     let here = get_or members (length members - 1 - left) member in
@@ -61,7 +67,7 @@ more_of_leaves key a b c members left member inside so_far pushed =
     let parts : map (leave_of key) (take (left + 1) (reverse members)) ≡ map (leave_of key) (take left (reverse members)) ++ Leave key here.id ∷ [] =
     ap (map (leave_of key)) more ∙ map-append (leave_of key) (take left (reverse members)) (here ∷ []) in
     subst (HasMore a c) (sym parts)
-    (more_of_both a b c (map (leave_of key) (take left (reverse members))) (Leave key here.id ∷ []) so_far (more_of_push b c (Leave key here.id) pushed))
+    (more_of_both a b c (map (leave_of key) (take left (reverse members))) (Leave key here.id ∷ []) so_far pushed)
 
 leaves_of_words : (key : Endpoint) (members : List (Member ProgramValue)) → map (leave_of key) (reverse members) ≡ map (leave_of key) (reverse (map words_member members))
 leaves_of_words key [] = refl

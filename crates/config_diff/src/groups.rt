@@ -8,6 +8,7 @@ ghost use Rattle.config_diff.specs.Words.{words_config};
 ghost use Rattle.config_diff.specs.body.Appended.{HasMore, words_group, words_program};
 ghost use Rattle.config_diff.specs.body.Changes.{group_changes, removal, same_words, selector_changes};
 
+use crate::appending::append;
 use crate::members::{append_joins, append_members_changes};
 use crate::programs::is_same_program;
 use bpf_verify::{OutOfMemory, Program};
@@ -39,10 +40,9 @@ fn append_selector<'a, A: Allocator, B: Allocator, C: Allocator>(
         return Ok(());
     }
     match other {
-        Some(program) => changes.push(Command::SetSelector { key, program })?,
-        None => changes.push(Command::ClearSelector { key })?,
+        Some(program) => append(changes, Command::SetSelector { key, program }),
+        None => append(changes, Command::ClearSelector { key }),
     }
-    Ok(())
 }
 
 fn append_selector_rule<'a, B: Allocator, C: Allocator>(
@@ -52,10 +52,10 @@ fn append_selector_rule<'a, B: Allocator, C: Allocator>(
 ) -> Result<(), OutOfMemory>
     ensures appended { OnOk result (HasMore changes.old.items changes.new.items (map (λ program. command.SetSelector key program) (option_to_list (words_program selector.entry)))) }
 {
-    if let Some(program) = selector {
-        changes.push(Command::SetSelector { key, program })?;
+    match selector {
+        Some(program) => append(changes, Command::SetSelector { key, program }),
+        None => Ok(()),
     }
-    Ok(())
 }
 
 fn append_rules_of_group<'a, B: Allocator, C: Allocator>(
@@ -65,10 +65,9 @@ fn append_rules_of_group<'a, B: Allocator, C: Allocator>(
     ensures appended { OnOk result (HasMore changes.old.items changes.new.items (rules_of_group (words_group group.now))) }
 {
     let key = group.key();
-    changes.push(Command::AddGroup { key })?;
+    append(changes, Command::AddGroup { key })?;
     append_selector_rule(changes, key, group.selector())?;
-    append_joins(changes, key, group.members())?;
-    Ok(())
+    append_joins(changes, key, group.members())
 }
 
 pub(crate) fn append_removal<'a, A: Allocator, B: Allocator, C: Allocator>(
@@ -82,8 +81,7 @@ pub(crate) fn append_removal<'a, A: Allocator, B: Allocator, C: Allocator>(
     if group_at(to, key).is_some() {
         return Ok(());
     }
-    changes.push(Command::RemoveGroup { key })?;
-    Ok(())
+    append(changes, Command::RemoveGroup { key })
 }
 
 pub(crate) fn append_group_changes<'a, A: Allocator, B: Allocator, C: Allocator>(
@@ -95,10 +93,8 @@ pub(crate) fn append_group_changes<'a, A: Allocator, B: Allocator, C: Allocator>
 {
     let key = group.key();
     let Some(one) = group_at(from, key) else {
-        append_rules_of_group(changes, group)?;
-        return Ok(());
+        return append_rules_of_group(changes, group);
     };
     append_selector(changes, key, one.selector(), group.selector())?;
-    append_members_changes(changes, key, one.members(), group.members())?;
-    Ok(())
+    append_members_changes(changes, key, one.members(), group.members())
 }

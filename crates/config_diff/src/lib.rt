@@ -11,6 +11,7 @@ ghost use Rattle.config_diff.specs.Rules.{RulesLeadToTheirConfig, commands_of};
 ghost use Rattle.config_diff.specs.Untouched.{LeaveEqualBeginnings, LeaveEqualGroups};
 ghost use Rattle.config_diff.specs.Words.{words_config, words_of_commands};
 
+mod appending;
 mod groups;
 mod members;
 mod programs;

@@ -6,6 +6,7 @@ ghost use Rattle.config_diff.specs.Rules.{rules_of_member};
 ghost use Rattle.config_diff.specs.body.Appended.{HasMore, words_member, words_program};
 ghost use Rattle.config_diff.specs.body.Changes.{can_stay, filter_changes, lock_changes, member_changes, members_changes, replaced_members, same_words};
 
+use crate::appending::append;
 use crate::programs::is_same_program;
 use bpf_verify::{OutOfMemory, Program};
 use ipv4_fields::Endpoint;
@@ -37,14 +38,16 @@ fn append_filter<'a, A: Allocator, B: Allocator, C: Allocator>(
         return Ok(());
     }
     match other {
-        Some(program) => changes.push(Command::SetFilter {
-            key,
-            member,
-            program,
-        })?,
-        None => changes.push(Command::ClearFilter { key, member })?,
+        Some(program) => append(
+            changes,
+            Command::SetFilter {
+                key,
+                member,
+                program,
+            },
+        ),
+        None => append(changes, Command::ClearFilter { key, member }),
     }
-    Ok(())
 }
 
 fn append_lock<'a, B: Allocator, C: Allocator>(
@@ -59,8 +62,7 @@ fn append_lock<'a, B: Allocator, C: Allocator>(
     if one || !other {
         return Ok(());
     }
-    changes.push(Command::LockFilter { key, member })?;
-    Ok(())
+    append(changes, Command::LockFilter { key, member })
 }
 
 fn append_member_changes<'a, A: Allocator, B: Allocator, C: Allocator>(
@@ -78,8 +80,7 @@ fn append_member_changes<'a, A: Allocator, B: Allocator, C: Allocator>(
         one.filter.as_ref(),
         other.filter.as_ref(),
     )?;
-    append_lock(changes, key, one.id, one.locked, other.locked)?;
-    Ok(())
+    append_lock(changes, key, one.id, one.locked, other.locked)
 }
 
 fn append_filter_rule<'a, B: Allocator, C: Allocator>(
@@ -90,14 +91,17 @@ fn append_filter_rule<'a, B: Allocator, C: Allocator>(
 ) -> Result<(), OutOfMemory>
     ensures appended { OnOk result (HasMore changes.old.items changes.new.items (map (λ program. command.SetFilter key member program) (option_to_list (words_program filter.entry)))) }
 {
-    if let Some(program) = filter {
-        changes.push(Command::SetFilter {
-            key,
-            member,
-            program,
-        })?;
+    match filter {
+        Some(program) => append(
+            changes,
+            Command::SetFilter {
+                key,
+                member,
+                program,
+            },
+        ),
+        None => Ok(()),
     }
-    Ok(())
 }
 
 fn append_rules_of_member<'a, B: Allocator, C: Allocator>(
@@ -107,14 +111,16 @@ fn append_rules_of_member<'a, B: Allocator, C: Allocator>(
 ) -> Result<(), OutOfMemory>
     ensures appended { OnOk result (HasMore changes.old.items changes.new.items (rules_of_member key (words_member member.now))) }
 {
-    changes.push(Command::Join {
-        key,
-        member: member.id,
-        to: member.to,
-    })?;
+    append(
+        changes,
+        Command::Join {
+            key,
+            member: member.id,
+            to: member.to,
+        },
+    )?;
     append_filter_rule(changes, key, member.id, member.filter.as_ref())?;
-    append_lock(changes, key, member.id, false, member.locked)?;
-    Ok(())
+    append_lock(changes, key, member.id, false, member.locked)
 }
 
 pub(crate) fn append_joins<'a, B: Allocator, C: Allocator>(
@@ -139,10 +145,8 @@ fn append_leaves<'a, A: Allocator, B: Allocator, C: Allocator>(
 {
     for left in 0..members.len() {
         let last = members.len() - 1 - left;
-        changes.push(Command::Leave {
-            key,
-            member: members[last].id,
-        })?;
+        let member = members[last].id;
+        append(changes, Command::Leave { key, member })?;
     }
     Ok(())
 }
@@ -156,8 +160,7 @@ fn append_replaced_members<'a, A: Allocator, B: Allocator, C: Allocator>(
     ensures appended { OnOk result (HasMore changes.old.items changes.new.items (replaced_members key (map words_member from.now) (map words_member to.now))) }
 {
     append_leaves(changes, key, from)?;
-    append_joins(changes, key, to)?;
-    Ok(())
+    append_joins(changes, key, to)
 }
 
 pub(crate) fn append_members_changes<'a, A: Allocator, B: Allocator, C: Allocator>(
@@ -173,11 +176,9 @@ pub(crate) fn append_members_changes<'a, A: Allocator, B: Allocator, C: Allocato
         let one = &from[at];
         let other = &to[at];
         if !can_stay(one, other) {
-            append_replaced_members(changes, key, &from[at..], &to[at..])?;
-            return Ok(());
+            return append_replaced_members(changes, key, &from[at..], &to[at..]);
         }
         append_member_changes(changes, key, one, other)?;
     }
-    append_replaced_members(changes, key, &from[shared..], &to[shared..])?;
-    Ok(())
+    append_replaced_members(changes, key, &from[shared..], &to[shared..])
 }
