@@ -13,6 +13,19 @@ use std::alloc::Global;
 use std::sync::Wait;
 use std::thread::Threads;
 
+fn counter_of<S: Source + Drop, O: Outbox + Drop>(done: Done<S, O>) -> Counter
+    ensures { result ≡ done.counter }
+{
+    let Done {
+        worker: _,
+        counter,
+        source: _,
+        outbox: _,
+        buffer: _,
+    } = done;
+    counter
+}
+
 // Appends the counters of the jobs to the others. There is room for them.
 fn take_back<S: Source + Drop, O: Outbox + Drop>(
     dones: Vec<Done<S, O>>,
@@ -22,16 +35,7 @@ fn take_back<S: Source + Drop, O: Outbox + Drop>(
     ensures counters { counters.new.items ≡ counters.old.items ++ map (λ done. done.counter) dones.items }
 {
     for done in dones {
-        let Done {
-            worker: _,
-            counter,
-            source: _,
-            outbox: _,
-            buffer: _,
-        } = done;
-        let Ok(()) = counters.push(counter) else {
-            unreachable!()
-        };
+        counters.push_reserved(counter_of(done));
     }
 }
 

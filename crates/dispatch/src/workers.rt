@@ -1,7 +1,7 @@
 //! Workers' threads: one a job, beside the caller's own (docs/SWITCH.md, "Workers").
 
-ghost use Rattle.std.specs.Prelude.{◌≡◌, ◌<◌, ◌≤◌, Err, IfOk, [], false, map, true, vec_capacity, vec_len};
-ghost use Rattle.dispatch.specs.declared.workers.RunFault.TheVariants.{SpawnFailed};
+ghost use Rattle.std.specs.Prelude.{◌≡◌, ◌+◌, ◌++◌, ◌∷◌, ◌<◌, ◌≤◌, Err, IfErr, IfOk, [], false, map, true, vec_capacity, vec_len};
+ghost use Rattle.dispatch.specs.declared.workers.RunFault.TheVariants.{OutOfMemory, SpawnFailed};
 ghost use Rattle.dispatch.specs.Workers.{AreDone, IsDone};
 
 use crate::device::{Outbox, Source};
@@ -14,7 +14,7 @@ use std::thread;
 use std::thread::{Promise, PromisedHandle, Scope, Threads};
 
 /// Why jobs have no results.
-#[derive(Clone, Copy, Debug, PartialEq, Eq)]
+#[derive(Clone, Copy, PartialEq, Eq)]
 pub enum RunFault {
     /// J1: a thread could not be started.
     SpawnFailed,
@@ -28,6 +28,40 @@ struct Finishes<S: Source, O: Outbox>(Snapshot<Job<S, O>>);
 
 impl<S: Source, O: Outbox> Promise<Done<S, O>> for Finishes<S, O> {
     ghost kept_by = { λ promise done. IsDone S.Source O.Outbox promise.0.value done };
+}
+
+// Starts a thread for a job. Returns false if it could not be started.
+fn start_one<
+    's,
+    'e,
+    R: Wait + Sync,
+    S: Source + Send + Drop + 'e,
+    O: Outbox + Send + Drop + 'e,
+    G: Gate + Sync,
+>(
+    rt: &'e R,
+    scope: &'s Scope<'s, &'e ()>,
+    job: Job<S, O>,
+    numbers: (u64, u64),
+    gate: &'e G,
+    handles: &mut Vec<PromisedHandle<Done<S, O>, Finishes<S, O>>>,
+) -> bool
+    requires room { vec_len handles.old < vec_capacity handles.old }
+    ensures started { result ≡ true → map (λ h. h.promise.0.value) handles.new.items ≡ map (λ h. h.promise.0.value) handles.old.items ++ job ∷ [] }
+    ensures one_more { result ≡ true → vec_len handles.new ≡ vec_len handles.old + 1 }
+    ensures no_more { result ≡ false → vec_len handles.new ≡ vec_len handles.old }
+    ensures capacity { vec_capacity handles.new ≡ vec_capacity handles.old }
+{
+    match scope.spawn_with(
+        Finishes(Snapshot::of(&job)),
+        move || finish(rt, gate, numbers, job),
+    ) {
+        Ok(handle) => {
+            handles.push_reserved(handle);
+            true
+        }
+        Err(_) => false,
+    }
 }
 
 // Starts a thread for each job, in their order. Returns false if one could not be started; those before it run.
@@ -55,17 +89,8 @@ fn start_each<
     let step = jobs.len() as u64;
     let mut number = 1u64;
     for job in jobs {
-        let numbers = (number, step);
-        match scope.spawn_with(
-            Finishes(Snapshot::of(&job)),
-            move || finish(rt, gate, numbers, job),
-        ) {
-            Ok(handle) => {
-                let Ok(()) = handles.push(handle) else {
-                    unreachable!()
-                };
-            }
-            Err(_) => return false,
+        if !start_one(rt, scope, job, (number, step), gate, handles) {
+            return false;
         }
         number = number.wrapping_add(1);
     }
@@ -84,9 +109,42 @@ fn join_each<R: Threads, S: Source + Drop, O: Outbox + Drop>(
     ensures done { AreDone S.Source O.Outbox (map (λ h. h.promise.0.value) handles.items) results.new.items }
 {
     for handle in handles {
-        let Ok(()) = results.push(handle.join(rt)) else {
-            unreachable!()
-        };
+        results.push_reserved(handle.join(rt));
+    }
+}
+
+// Room for the handles and the results of so many jobs.
+fn room_for<S: Source + Drop, O: Outbox + Drop>(
+    alloc: Global,
+    count: usize,
+) -> Result<
+    (
+        Vec<PromisedHandle<Done<S, O>, Finishes<S, O>>>,
+        Vec<Done<S, O>>,
+    ),
+    RunFault,
+>
+    ensures handles { IfOk result (λ rooms. (rooms.0.items ≡ []) × (count ≤ vec_capacity rooms.0)) }
+    ensures results { IfOk result (λ rooms. (rooms.1.items ≡ []) × (count ≤ vec_capacity rooms.1)) }
+    ensures fault { IfErr result (λ fault. fault ≡ OutOfMemory) }
+{
+    let Ok(handles) = Vec::with_capacity(alloc, count) else {
+        return Err(RunFault::OutOfMemory);
+    };
+    let Ok(results) = Vec::with_capacity(alloc, count) else {
+        return Err(RunFault::OutOfMemory);
+    };
+    Ok((handles, results))
+}
+
+fn run_or_drop<F: FnOnce() + Drop>(is_run: bool, side: F)
+    requires { F.pre side }
+    ensures { is_run ≡ true → F.post side tt }
+{
+    if is_run {
+        side();
+    } else {
+        drop(side);
     }
 }
 
@@ -113,18 +171,12 @@ fn run_in<
     ensures side_was_run { IfOk result (λ dones. F.post side tt) }
     ensures spawn_failed { result ≡ Err SpawnFailed → 0 < vec_len jobs }
 {
-    let Ok(mut handles) = Vec::with_capacity(alloc, jobs.len()) else {
-        return Err(RunFault::OutOfMemory);
-    };
-    let Ok(mut results) = Vec::with_capacity(alloc, jobs.len()) else {
-        return Err(RunFault::OutOfMemory);
+    let (mut handles, mut results) = match room_for(alloc, jobs.len()) {
+        Ok(rooms) => rooms,
+        Err(fault) => return Err(fault),
     };
     let all_started = start_each(rt, scope, jobs, gate, &mut handles);
-    if all_started {
-        side();
-    } else {
-        drop(side);
-    }
+    run_or_drop(all_started, side);
     join_each(rt, handles, &mut results);
     if all_started {
         Ok(results)

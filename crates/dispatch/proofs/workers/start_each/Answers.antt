@@ -10,14 +10,14 @@ returns-clause-one_a_job g c = search rules
 pub returns-clause-spawn_failed : goal.returns-clause-spawn_failed
 returns-clause-spawn_failed g c = search rules
 
-pub returns-in-Err-clause-no_more : goal.returns-in-Err-clause-no_more
-returns-in-Err-clause-no_more g c = search rules
+pub returns-then-not-start_one-clause-no_more : goal.returns-then-not-start_one-clause-no_more
+returns-then-not-start_one-clause-no_more g c = search rules
 
-pub returns-in-Err-clause-one_a_job : goal.returns-in-Err-clause-one_a_job
-returns-in-Err-clause-one_a_job g c = search rules
+pub returns-then-not-start_one-clause-one_a_job : goal.returns-then-not-start_one-clause-one_a_job
+returns-then-not-start_one-clause-one_a_job g c = search rules
 
-pub returns-in-Err-clause-spawn_failed : goal.returns-in-Err-clause-spawn_failed
-returns-in-Err-clause-spawn_failed g c = search rules
+pub returns-then-not-start_one-clause-spawn_failed : goal.returns-then-not-start_one-clause-spawn_failed
+returns-then-not-start_one-clause-spawn_failed g c = search rules
 
-pub returns-in-Err-clause-started : goal.returns-in-Err-clause-started
-returns-in-Err-clause-started g c = search rules
+pub returns-then-not-start_one-clause-started : goal.returns-then-not-start_one-clause-started
+returns-then-not-start_one-clause-started g c = search rules
