@@ -1,6 +1,6 @@
 //! The ways from the front to the workers (docs/COMMANDS.md, "How it receives").
 
-ghost use Rattle.std.specs.Prelude.{◌≡◌, ◌≤◌, ◌++◌, ◌∷◌, IfErr, IfOk, None, OnOk, [], length};
+ghost use Rattle.std.specs.Prelude.{◌≡◌, ◌≤◌, ◌+◌, ◌++◌, ◌∷◌, IfErr, IfOk, None, OnOk, [], length, vec_len};
 ghost use Rattle.serve_devices.specs.Devices.{new_source};
 ghost use Rattle.serve_udp.specs.declared.sockets.TheConstants.{LONGEST_DATAGRAM};
 ghost use Rattle.serve_udp.specs.body.Jobs.{AreNewSources};
@@ -71,6 +71,27 @@ fn add_source<I: Ingress + Drop>(
     Ok(())
 }
 
+// Makes a worker's source, and the queue by which it is handed datagrams.
+fn add_queue<'a, R: Wait>(
+    rt: &'a R,
+    alloc: Global,
+    sources: &mut Vec<WorkerSource<QueueIngress<'a, R>>>,
+    queues: &mut Vec<WorkerQueue>,
+) -> Result<(), Failure>
+    ensures added { OnOk result (sources.new.items ≡ sources.old.items ++ new_source LONGEST_DATAGRAM None ∷ []) }
+    ensures queued { OnOk result (vec_len queues.new ≡ vec_len queues.old + 1) }
+    ensures failed { IfErr result (λ failure. failure ≡ Failure.OutOfMemory) }
+{
+    let Ok((ingress, queue)) = open_queue(rt, alloc) else {
+        return Err(Failure::OutOfMemory);
+    };
+    add_source(alloc, ingress, sources)?;
+    let Ok(()) = queues.push(queue) else {
+        return Err(Failure::OutOfMemory);
+    };
+    Ok(())
+}
+
 /// Returns the sources of workers to whom the caller's thread hands the datagrams.
 pub fn queued_intake<'a, R: Wait>(
     rt: &'a R,
@@ -86,13 +107,7 @@ pub fn queued_intake<'a, R: Wait>(
     let mut sources = Vec::new(alloc);
     let mut queues: Vec<WorkerQueue> = Vec::new(alloc);
     for _worker in 0..workers {
-        let Ok((ingress, queue)) = open_queue(rt, alloc) else {
-            return Err(Failure::OutOfMemory);
-        };
-        add_source(alloc, ingress, &mut sources)?;
-        let Ok(()) = queues.push(queue) else {
-            return Err(Failure::OutOfMemory);
-        };
+        add_queue(rt, alloc, &mut sources, &mut queues)?;
     }
     Ok(Intake {
         sources,

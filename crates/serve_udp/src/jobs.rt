@@ -79,17 +79,17 @@ fn add_job<'a, I: Ingress + Drop, R: Wait + Net>(
     ensures source { sources_of jobs.new.items ≡ sources_of jobs.old.items ++ devices.entry.source ∷ [] }
     ensures capacity { vec_capacity jobs.old ≤ vec_capacity jobs.new }
 {
-    let Devices {
-        source,
-        outbox,
-        buffer,
-    } = devices;
     let Some(worker) = seats.pop() else {
         unreachable!()
     };
     let Some(counter) = counters.pop() else {
         unreachable!()
     };
+    let Devices {
+        source,
+        outbox,
+        buffer,
+    } = devices;
     let job = Job {
         worker,
         counter,

@@ -179,6 +179,20 @@ fn open_control(
     }
 }
 
+// Waits for the front, which is bound to the address, unless the workers receive from it, and for control.
+fn open_poll<N: Net>(
+    net: &N,
+    alloc: Global,
+    receiving: &mut Receiving,
+    bound: (Endpoint, BoundControl),
+) -> io::Result<(Poll, Control)> {
+    let poll = Poll::new(net)?;
+    receiving.register(poll.registry())?;
+    let (address, control) = bound;
+    let control = open_control(alloc, address, control, poll.registry())?;
+    Ok((poll, control))
+}
+
 impl Control {
     fn is_ready(&self) -> bool {
         match self {
@@ -265,10 +279,7 @@ impl<'a> Sockets<'a> {
         bound: (Endpoint, BoundControl),
         room: Room,
     ) -> io::Result<Sockets<'a>> {
-        let (address, control) = bound;
-        let poll = Poll::new(net)?;
-        receiving.register(poll.registry())?;
-        let control = open_control(alloc, address, control, poll.registry())?;
+        let (poll, control) = open_poll(net, alloc, &mut receiving, bound)?;
         Ok(Sockets {
             poll,
             room,

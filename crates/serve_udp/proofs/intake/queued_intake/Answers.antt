@@ -8,5 +8,5 @@ loop-worker-init g c = (no_source _ c.new-sources.ensures.items, c.new-queues.en
 pub loop-worker-preserved : goal.loop-worker-preserved
 loop-worker-preserved g c =
     let queued = c.loop-worker.invariant.1 in
-    let pushed = c.in-Ok-push.ensures.len in
-    (one_source _ _ _ _ c.in_ok-add_source.ensures.added refl c.loop-worker.invariant.0, omega (arith, queued, pushed))
+    let pushed = c.in_ok-add_queue.ensures.queued in
+    (one_source _ _ _ _ c.in_ok-add_queue.ensures.added refl c.loop-worker.invariant.0, omega (arith, queued, pushed))
