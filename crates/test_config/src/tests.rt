@@ -9,6 +9,7 @@ mod commands;
 mod compiling;
 mod counted_words;
 mod formats;
+mod heaps;
 mod images;
 mod instructions;
 mod locks;

@@ -1,10 +1,11 @@
 //! Assembling and printing if memory is refused.
 
-use super::assert_numbered;
+use super::heaps::steps_in_heaps;
 use bpf_asm::{AsmFault, assemble, print};
 use bpf_verify::Program;
 use linked_list_allocator::LocalHeap;
 use std::alloc::{Allocator, Global};
+use std::process::Abort;
 
 // How far memory lasts: 0 if it does not suffice for the words, 1 if it does not for the program's text. None if
 // another fault is returned, or a result is wrong.
@@ -40,29 +41,13 @@ fn assembled_within(heap: &LocalHeap, text: &[u8], first: u64) -> Lasted {
 const TEXT: &[u8] =
     b"a: ja c; b: neg; c: jeq #1,d,e; d: neg; e: neg; f: jeq x,g,g; g: neg; h: neg; ret #65535; i: ret a";
 
-// The same in a heap of this many bytes, which has all of them again afterwards.
-fn steps_within(alloc: Global, size: usize) -> Lasted {
-    match LocalHeap::new(alloc, size) {
-        Ok(heap) => {
-            let steps = assembled_within(&heap, TEXT, 0x0005_0000_0000_0001);
-            if heap.used() == 0 { steps } else { None }
-        }
-        Err(_) => None,
-    }
+fn steps_within<R: Abort>(_rt: &R, _alloc: Global, heap: &LocalHeap) -> Lasted {
+    assembled_within(heap, TEXT, 0x0005_0000_0000_0001)
 }
 
 #[test]
 fn assembly_under_each_refused_growth(rt: HostRuntime) {
-    let mut size = 64;
-    let mut least = 0;
-    // Each heap has one block more than the one before, so that each allocation is once the first that is refused.
-    for _ in 0..300 {
-        let steps = steps_within(rt.alloc(), size).expect(&rt, "only memory is refused");
-        assert_numbered(&rt, least <= steps, size as u64);
-        least = steps;
-        size = size.saturating_add(16);
-    }
-    assert!(rt; least == 2);
+    assert!(rt; steps_in_heaps(&rt, rt.alloc(), 300, steps_within) == 2);
 }
 
 fn is_refused<A: Allocator + Clone>(alloc: A, text: &[u8], expected: AsmFault) -> bool {

@@ -1,6 +1,6 @@
 //! The order of groups and of members, which no command of the program prints, and commands under refused growths.
 
-use super::images::{RET_ZERO, SAMPLE_GROUP, SAMPLE_MEMBER, accepted, applied};
+use super::heaps::steps_in_heaps;
 use bpf_verify::Program;
 use ipv4_fields::Endpoint;
 use linked_list_allocator::LocalHeap;
@@ -8,6 +8,17 @@ use member_group::{Command, Config, Refusal};
 use std::alloc::Global;
 use std::process::Abort;
 
+pub const RET_ZERO: u64 = 0x0006_0000_0000_0000;
+
+pub const RET_ONE: u64 = 0x0006_0000_0000_0001;
+
+// 127.0.0.1:9001, where each member is.
+pub const MEMBER: Endpoint = Endpoint {
+    address: 0x7f00_0001,
+    port: 9001,
+};
+
+// The group at 10.0.0.2 and a port.
 fn key_at(port: u16) -> Endpoint {
     Endpoint {
         address: 0x0a00_0002,
@@ -15,53 +26,74 @@ fn key_at(port: u16) -> Endpoint {
     }
 }
 
-// `ret #0`, repeated.
-fn returns(rt: &impl Abort, alloc: Global, count: usize) -> Program<Global> {
-    accepted(rt, vec![in alloc; RET_ZERO; count].expect(rt, "memory"))
+pub fn applied(rt: &impl Abort, config: &Config, command: Command) -> Config {
+    config.apply(&command).expect(rt, "the command is applied")
 }
 
-// A command on the sample group, or one that adds or removes a group at a port of its address.
+// A program of this many instructions: this last one, and before it `ret #0`, repeated.
 #[derive(Clone, Copy)]
-pub(super) enum Act {
+pub struct Returns(pub usize, pub u64);
+
+fn program(rt: &impl Abort, alloc: Global, returns: Returns) -> Program<Global> {
+    let Returns(count, last) = returns;
+    let mut words = vec![in alloc; RET_ZERO; count].expect(rt, "memory");
+    if let Some(word) = words.last_mut() {
+        *word = last;
+    }
+    Program::new(words)
+        .ok()
+        .expect(rt, "the words are accepted")
+}
+
+// A command on the group at this port.
+#[derive(Clone, Copy)]
+pub enum Act {
     Add(u16),
     Remove(u16),
-    Join(u32),
-    Leave(u32),
-    // A program of this many instructions.
-    Select(usize),
-    Unselect,
-    Filter(u32, usize),
-    Unfilter(u32),
-    Lock(u32),
+    Join(u16, u32),
+    Leave(u16, u32),
+    Select(u16, Returns),
+    Unselect(u16),
+    Filter(u16, u32, Returns),
+    Unfilter(u16, u32),
+    Lock(u16, u32),
 }
 
 fn command(rt: &impl Abort, alloc: Global, act: Act) -> Command {
-    let key = SAMPLE_GROUP;
     match act {
         Act::Add(port) => Command::AddGroup { key: key_at(port) },
         Act::Remove(port) => Command::RemoveGroup { key: key_at(port) },
-        Act::Join(member) => Command::Join {
-            key,
+        Act::Join(port, member) => Command::Join {
+            key: key_at(port),
             member,
-            to: SAMPLE_MEMBER,
+            to: MEMBER,
         },
-        Act::Leave(member) => Command::Leave { key, member },
-        Act::Select(count) => Command::SetSelector {
-            key,
-            program: returns(rt, alloc, count),
-        },
-        Act::Unselect => Command::ClearSelector { key },
-        Act::Filter(member, count) => Command::SetFilter {
-            key,
+        Act::Leave(port, member) => Command::Leave {
+            key: key_at(port),
             member,
-            program: returns(rt, alloc, count),
         },
-        Act::Unfilter(member) => Command::ClearFilter { key, member },
-        Act::Lock(member) => Command::LockFilter { key, member },
+        Act::Select(port, returns) => Command::SetSelector {
+            key: key_at(port),
+            program: program(rt, alloc, returns),
+        },
+        Act::Unselect(port) => Command::ClearSelector { key: key_at(port) },
+        Act::Filter(port, member, returns) => Command::SetFilter {
+            key: key_at(port),
+            member,
+            program: program(rt, alloc, returns),
+        },
+        Act::Unfilter(port, member) => Command::ClearFilter {
+            key: key_at(port),
+            member,
+        },
+        Act::Lock(port, member) => Command::LockFilter {
+            key: key_at(port),
+            member,
+        },
     }
 }
 
-pub(super) fn after_each(rt: &impl Abort, alloc: Global, acts: &[Act]) -> Config {
+pub fn after_each(rt: &impl Abort, alloc: Global, acts: &[Act]) -> Config {
     let mut config = Config::new(alloc);
     for act in acts {
         config = applied(rt, &config, command(rt, alloc, *act));
@@ -69,10 +101,11 @@ pub(super) fn after_each(rt: &impl Abort, alloc: Global, acts: &[Act]) -> Config
     config
 }
 
-// The content of a configuration: the ports of its keys in order, the numbers of its members in order, and its charge.
+// The content of a configuration: the ports of its keys in order, the numbers of its members in order, each with whether it is locked,
+// and its charge.
 struct Content {
     ports: &'static [u16],
-    ids: &'static [u32],
+    members: &'static [(u32, bool)],
     charge: u64,
 }
 
@@ -90,23 +123,23 @@ fn has_ports(config: &Config, ports: &[u16]) -> bool {
     true
 }
 
-// The numbers of the members of all groups are these, in order.
-fn has_ids(config: &Config, ids: &[u32]) -> bool {
-    let mut rest = ids;
+// The members of all groups have these numbers, in order, and are locked or not.
+pub fn has_members(config: &Config, members: &[(u32, bool)]) -> bool {
+    let mut rest = members;
     for group in config.groups() {
         for member in group.members() {
             match rest {
-                [id, behind @ ..] if *id == member.id => rest = behind,
+                [row, behind @ ..] if *row == (member.id, member.locked) => rest = behind,
                 _ => return false,
             }
         }
     }
-    rest.is_empty() && config.members() == ids.len()
+    rest.is_empty() && config.members() == members.len()
 }
 
 fn has(config: &Config, content: &Content) -> bool {
     has_ports(config, content.ports)
-        && has_ids(config, content.ids)
+        && has_members(config, content.members)
         && config.charge() == content.charge
 }
 
@@ -130,26 +163,26 @@ const FOUR_GROUPS: &[Act] = &[Act::Add(53), Act::Add(99), Act::Add(7), Act::Add(
 // The filter goes with its member.
 const THREE_MEMBERS: &[Act] = &[
     Act::Add(53),
-    Act::Join(1),
-    Act::Join(2),
-    Act::Join(3),
-    Act::Filter(3, 5),
+    Act::Join(53, 1),
+    Act::Join(53, 2),
+    Act::Join(53, 3),
+    Act::Filter(53, 3, Returns(5, RET_ZERO)),
 ];
 
 const ALL_THREE: Content = Content {
     ports: &[53],
-    ids: &[1, 2, 3],
+    members: &[(1, false), (2, false), (3, false)],
     charge: 2 + 4 + 4 * 3 + 5,
 };
 
 // Above the largest charge that is published, 8192.
 const TOO_LARGE: &[Act] = &[
     Act::Add(53),
-    Act::Join(0),
-    Act::Join(1),
-    Act::Filter(0, 4096),
-    Act::Filter(1, 4082),
-    Act::Filter(1, 4083),
+    Act::Join(53, 0),
+    Act::Join(53, 1),
+    Act::Filter(53, 0, Returns(4096, RET_ZERO)),
+    Act::Filter(53, 1, Returns(4082, RET_ZERO)),
+    Act::Filter(53, 1, Returns(4083, RET_ZERO)),
 ];
 
 static ROWS: [Row; 5] = [
@@ -157,13 +190,13 @@ static ROWS: [Row; 5] = [
         acts: &[],
         before: Content {
             ports: &[],
-            ids: &[],
+            members: &[],
             charge: 2,
         },
         act: Act::Add(53),
         after: Content {
             ports: &[53],
-            ids: &[],
+            members: &[],
             charge: 6,
         },
     },
@@ -171,13 +204,13 @@ static ROWS: [Row; 5] = [
         acts: FOUR_GROUPS,
         before: Content {
             ports: &[7, 53, 60, 99],
-            ids: &[],
+            members: &[],
             charge: 18,
         },
         act: Act::Remove(60),
         after: Content {
             ports: &[7, 53, 99],
-            ids: &[],
+            members: &[],
             charge: 14,
         },
     },
@@ -185,20 +218,20 @@ static ROWS: [Row; 5] = [
     Row {
         acts: THREE_MEMBERS,
         before: ALL_THREE,
-        act: Act::Leave(1),
+        act: Act::Leave(53, 1),
         after: Content {
             ports: &[53],
-            ids: &[3, 2],
+            members: &[(3, false), (2, false)],
             charge: 2 + 4 + 4 * 2 + 5,
         },
     },
     Row {
         acts: THREE_MEMBERS,
         before: ALL_THREE,
-        act: Act::Leave(3),
+        act: Act::Leave(53, 3),
         after: Content {
             ports: &[53],
-            ids: &[1, 2],
+            members: &[(1, false), (2, false)],
             charge: 2 + 4 + 4 * 2,
         },
     },
@@ -206,13 +239,13 @@ static ROWS: [Row; 5] = [
         acts: TOO_LARGE,
         before: Content {
             ports: &[53],
-            ids: &[0, 1],
+            members: &[(0, false), (1, false)],
             charge: 8193,
         },
-        act: Act::Unfilter(0),
+        act: Act::Unfilter(53, 0),
         after: Content {
             ports: &[53],
-            ids: &[0, 1],
+            members: &[(0, false), (1, false)],
             charge: 14 + 4083,
         },
     },
@@ -225,21 +258,21 @@ fn groups_in_rising_order(rt: HostRuntime) {
     }
 }
 
-pub(super) const ONE_MEMBER: &[Act] = &[Act::Add(53), Act::Join(1)];
+pub const ONE_MEMBER: &[Act] = &[Act::Add(53), Act::Join(53, 1)];
 
-pub(super) const LOCKED_BARE: &[Act] = &[Act::Add(53), Act::Join(1), Act::Lock(1)];
+pub const LOCKED_BARE: &[Act] = &[Act::Add(53), Act::Join(53, 1), Act::Lock(53, 1)];
 
 // Commands, and the configuration's charge after each.
 static STEPS: [(Act, u64); 10] = [
     (Act::Add(53), 6),
-    (Act::Join(1), 10),
-    (Act::Join(2), 14),
-    (Act::Select(20), 34),
-    (Act::Filter(2, 30), 64),
-    (Act::Lock(1), 64),
-    (Act::Leave(1), 60),
-    (Act::Unfilter(2), 30),
-    (Act::Unselect, 10),
+    (Act::Join(53, 1), 10),
+    (Act::Join(53, 2), 14),
+    (Act::Select(53, Returns(20, RET_ZERO)), 34),
+    (Act::Filter(53, 2, Returns(30, RET_ZERO)), 64),
+    (Act::Lock(53, 1), 64),
+    (Act::Leave(53, 1), 60),
+    (Act::Unfilter(53, 2), 30),
+    (Act::Unselect(53), 10),
     (Act::Remove(53), 2),
 ];
 
@@ -264,7 +297,7 @@ fn applies<'a>(
 }
 
 // Applies the commands until one is refused; returns the number that were applied.
-fn applied_within(rt: &impl Abort, alloc: Global, heap: &LocalHeap) -> usize {
+fn applied_within<R: Abort>(rt: &R, alloc: Global, heap: &LocalHeap) -> Option<usize> {
     let mut config = Config::new(heap);
     let mut steps = 0usize;
     for (act, charge) in &STEPS {
@@ -273,27 +306,10 @@ fn applied_within(rt: &impl Abort, alloc: Global, heap: &LocalHeap) -> usize {
         }
         steps = steps.saturating_add(1);
     }
-    steps
-}
-
-// The commands that are applied within a heap of this size: no fewer than in a smaller one, and its memory is given
-// back.
-fn steps_at(rt: &impl Abort, alloc: Global, size: usize, least: usize) -> usize {
-    let heap = LocalHeap::new(alloc, size).expect(rt, "memory");
-    let steps = applied_within(rt, alloc, &heap);
-    assert!(rt; least <= steps, "a heap of {size} bytes");
-    assert!(rt; heap.used() == 0);
-    steps
+    Some(steps)
 }
 
 #[test]
 fn commands_under_each_refused_growth(rt: HostRuntime) {
-    let mut size = 64;
-    let mut least = 0;
-    // Each heap has one block more than the one before, so that each allocation is once the first that is refused.
-    for _ in 0..200 {
-        least = steps_at(&rt, rt.alloc(), size, least);
-        size = size.saturating_add(16);
-    }
-    assert!(rt; least == STEPS.len());
+    assert!(rt; steps_in_heaps(&rt, rt.alloc(), 200, applied_within) == STEPS.len());
 }

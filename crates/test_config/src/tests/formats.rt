@@ -1,6 +1,7 @@
 //! Programs in numbers: the words of texts, and what tcpdump prints, read and printed in heaps of every size.
 
 use super::assert_numbered;
+use super::heaps::steps_in_heaps;
 use bpf_formats::{FormatFault, print_dd, print_ddd, print_hex, read_ddd, read_hex};
 use bpf_verify::Program;
 use linked_list_allocator::LocalHeap;
@@ -112,40 +113,24 @@ fn printed_within(rt: &impl Abort, heap: &LocalHeap, program: &Program<&LocalHea
 }
 
 // Reads a program in a heap's memory, and prints it there in each format: returns how far memory lasted.
-fn formatted_within(rt: &impl Abort, heap: &LocalHeap) -> usize {
+fn formatted_within<R: Abort>(rt: &R, _alloc: Global, heap: &LocalHeap) -> Option<usize> {
     match read_ddd(heap, IP_DDD.as_bytes()) {
         Ok(words) => {
             let program = Program::new(words)
                 .ok()
                 .expect(rt, "the words are accepted");
             assert!(rt; program.words() == IP.as_slice());
-            printed_within(rt, heap, &program)
+            Some(printed_within(rt, heap, &program))
         }
-        Err(fault) => {
-            assert!(rt; fault == FormatFault::OutOfMemory);
-            0
-        }
+        Err(fault) => if fault == FormatFault::OutOfMemory {
+            Some(0)
+        } else {
+            None
+        },
     }
-}
-
-// The same in a heap of this many bytes, which has all of them again afterwards.
-fn steps_within(rt: &impl Abort, alloc: Global, size: usize) -> usize {
-    let heap = LocalHeap::new(alloc, size).expect(rt, "memory");
-    let steps = formatted_within(rt, &heap);
-    assert!(rt; heap.used() == 0);
-    steps
 }
 
 #[test]
 fn formats_under_each_refused_growth(rt: HostRuntime) {
-    let mut size = 64;
-    let mut least = 0;
-    // Each heap has one block more than the one before, so that each allocation is once the first that is refused.
-    for _ in 0..120 {
-        let steps = steps_within(&rt, rt.alloc(), size);
-        assert_numbered(&rt, least <= steps, size as u64);
-        least = steps;
-        size = size.saturating_add(16);
-    }
-    assert!(rt; least == 5);
+    assert!(rt; steps_in_heaps(&rt, rt.alloc(), 120, formatted_within) == 5);
 }

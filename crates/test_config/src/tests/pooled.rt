@@ -6,15 +6,13 @@ ghost use Rattle.config_image.specs.declared.TheConstants.{ROW_WORDS};
 ghost use Rattle.config_image.specs.Image.{programs_begin};
 ghost use Rattle.config_image.specs.Pooled.{ArePages, parts};
 
-use super::images::{
-    RET_ONE, RET_ZERO, SAMPLE_GROUP, SAMPLE_MEMBER, accepted, applied, sample, two_groups,
-    with_member, with_selector,
-};
+use super::commands::{Act, RET_ONE, RET_ZERO, Returns, after_each};
+use super::images::{IMAGES, ONE_SELECTOR, TWO_GROUPS};
 use config_image::{
     PAGE_LIMIT, Programs, ROW_WORDS, WordSink, page_count, row_tells_its_parts, stored_word,
     write_pooled,
 };
-use member_group::{Command, Config};
+use member_group::Config;
 use std::alloc::Global;
 use std::process::Abort;
 
@@ -63,72 +61,87 @@ fn has_words(rt: &impl Abort, alloc: Global, config: &Config, from: usize, words
     same
 }
 
-// A row from its beginning, its pages and its programs.
-fn is_row(
-    rt: &impl Abort,
-    alloc: Global,
-    config: &Config,
+// A configuration, the number of its pages, the words at the beginning of its row, and its programs.
+struct Row {
+    acts: &'static [Act],
     pages: u32,
-    words: &[u64; 8],
-    programs: &[&[u64]],
-) -> bool {
-    page_count(config) == pages
-        && has_words(rt, alloc, config, 0, words.as_slice())
-        && lends(config, programs)
+    words: &'static [u64; 8],
+    programs: &'static [&'static [u64]],
 }
 
-#[test]
-fn pooled_empty_row(rt: HostRuntime) {
-    let config = Config::new(rt.alloc());
-    let words = [0x2_0002_0000, 0, 0, 0, 0, 0, 0, 0];
-    assert!(rt; is_row(&rt, rt.alloc(), &config, 0, &words, &[]));
+fn begins_with(rt: &impl Abort, alloc: Global, config: &Config, words: &[u64; 8]) -> bool {
+    has_words(rt, alloc, config, 0, words.as_slice())
 }
 
-#[test]
-fn pooled_selector_row(rt: HostRuntime) {
-    let config = with_selector(&rt, rt.alloc());
-    let words = [
-        0x7_0006_0001,
-        1,
-        0x0a00_0002_0035,
-        6,
-        0,
-        0x6_0001,
-        0x6_0000,
-        0,
-    ];
-    assert!(rt; is_row(&rt, rt.alloc(), &config, 1, &words, &[&[RET_ZERO]]));
+fn is_row(rt: &impl Abort, alloc: Global, row: &Row) -> bool {
+    let config = after_each(rt, alloc, row.acts);
+    page_count(&config) == row.pages
+        && begins_with(rt, alloc, &config, row.words)
+        && lends(&config, row.programs)
 }
 
 // The selector before the filters; a member without filter adds nothing.
+static ROWS: [Row; 3] = [
+    Row {
+        acts: &[],
+        pages: 0,
+        words: &[0x2_0002_0000, 0, 0, 0, 0, 0, 0, 0],
+        programs: &[],
+    },
+    Row {
+        acts: ONE_SELECTOR,
+        pages: 1,
+        words: &[
+            0x7_0006_0001,
+            1,
+            0x0a00_0002_0035,
+            6,
+            0,
+            0x6_0001,
+            0x6_0000,
+            0,
+        ],
+        programs: &[&[RET_ZERO]],
+    },
+    Row {
+        acts: TWO_GROUPS,
+        pages: 3,
+        // As the image, except for the lengths in word 0: of the image, of its part before the programs, and of the page
+        // table.
+        words: &[
+            0x16_0012_0003,
+            2,
+            0x0a00_0002_0035,
+            10,
+            0,
+            0x12_0001,
+            0x0a00_0002_0036,
+            10,
+        ],
+        programs: &[&[RET_ZERO], &[RET_ZERO, RET_ONE], &[RET_ONE]],
+    },
+];
+
 #[test]
-fn walk_in_image_order(rt: HostRuntime) {
-    let config = two_groups(&rt, rt.alloc());
-    assert!(rt; page_count(&config) == 3);
-    assert!(rt; lends(&config, &[&[RET_ZERO], &[RET_ZERO, RET_ONE], &[RET_ONE]]));
+fn pooled_rows_and_their_programs(rt: HostRuntime) {
+    for row in &ROWS {
+        assert!(rt; is_row(&rt, rt.alloc(), row));
+    }
 }
 
 // One group, one member, a filter of 4096 instructions.
-fn with_long_filter(rt: &impl Abort, alloc: Global) -> Config {
-    // Each but the last is `ld #0`.
-    let mut words = vec![in alloc; 0; 4095].expect(rt, "memory");
-    words.push(RET_ZERO).expect(rt, "memory");
-    let filter = Command::SetFilter {
-        key: SAMPLE_GROUP,
-        member: 1,
-        program: accepted(rt, words),
-    };
-    applied(rt, &with_member(rt, alloc), filter)
-}
+const LONG_FILTER: &[Act] = &[
+    Act::Add(53),
+    Act::Join(53, 1),
+    Act::Filter(53, 1, Returns(4096, RET_ZERO)),
+];
 
-fn with_second_member(rt: &impl Abort, alloc: Global) -> Config {
-    let join = Command::Join {
-        key: SAMPLE_GROUP,
-        member: 2,
-        to: SAMPLE_MEMBER,
-    };
-    applied(rt, &with_long_filter(rt, alloc), join)
-}
+const SECOND_MEMBER: &[Act] = &[
+    Act::Add(53),
+    Act::Join(53, 1),
+    Act::Filter(53, 1, Returns(4096, RET_ZERO)),
+    Act::Join(53, 2),
+];
 
 // The page table entries of 256 pages from place 10 on, and zeros after them.
 fn is_long_row(rt: &impl Abort, alloc: Global, config: &Config) -> bool {
@@ -148,8 +161,8 @@ fn is_long_row_of_two(rt: &impl Abort, alloc: Global, config: &Config) -> bool {
 #[test]
 fn pooled_long_filter(rt: HostRuntime) {
     let alloc = rt.alloc();
-    assert!(rt; is_long_row(&rt, alloc, &with_long_filter(&rt, alloc)));
-    assert!(rt; is_long_row_of_two(&rt, alloc, &with_second_member(&rt, alloc)));
+    assert!(rt; is_long_row(&rt, alloc, &after_each(&rt, alloc, LONG_FILTER)));
+    assert!(rt; is_long_row_of_two(&rt, alloc, &after_each(&rt, alloc, SECOND_MEMBER)));
 }
 
 // Room for a row.
@@ -188,13 +201,16 @@ fn is_written(rt: &impl Abort, alloc: Global, config: &Config, first: u32) -> bo
     same
 }
 
+fn are_written(rt: &impl Abort, alloc: Global, acts: &[Act]) -> bool {
+    let config = after_each(rt, alloc, acts);
+    is_written(rt, alloc, &config, 0) && is_written(rt, alloc, &config, LAST_FIRST)
+}
+
 #[test]
 fn rows_are_written(rt: HostRuntime) {
-    let alloc = rt.alloc();
-    for number in 0..4 {
-        let config = sample(&rt, alloc, number);
-        assert!(rt; is_written(&rt, alloc, &config, 0));
-        assert!(rt; is_written(&rt, alloc, &config, LAST_FIRST));
+    for (acts, _) in &IMAGES {
+        assert!(rt; are_written(&rt, rt.alloc(), acts));
     }
-    assert!(rt; is_written(&rt, alloc, &with_second_member(&rt, alloc), 7));
+    let config = after_each(&rt, rt.alloc(), SECOND_MEMBER);
+    assert!(rt; is_written(&rt, rt.alloc(), &config, 7));
 }
