@@ -16,7 +16,7 @@ use memchr::memchr;
 use versions::LAST_NUMBER;
 
 /// The configuration that the lines of a block change.
-#[derive(Clone, Copy, PartialEq, Eq)]
+#[derive(Clone, Copy, Debug, PartialEq, Eq)]
 pub enum Start {
     /// The current one: `all`.
     Current,
@@ -25,7 +25,7 @@ pub enum Start {
 }
 
 /// The first line of a block.
-#[derive(Clone, Copy, PartialEq, Eq)]
+#[derive(Clone, Copy, Debug, PartialEq, Eq)]
 pub struct Head {
     /// The version that the block is for, if it is for one only.
     pub version: Option<u64>,

@@ -10,7 +10,7 @@ use retire::PublishFault;
 use std::fmt;
 
 /// Why a control line or a command is refused. `line` and the commands never refuse for lack of memory (A6, P6, F3, G8).
-#[derive(Clone, Copy, PartialEq, Eq)]
+#[derive(Clone, Copy, Debug, PartialEq, Eq)]
 pub enum Reason {
     /// C1: the text is malformed. A control line is not in the table, or digits spell no bytes.
     BadForm,

@@ -23,7 +23,7 @@ pub const NUMBER_LIMIT: usize = 20;
 pub const WINDOW: usize = 5;
 
 /// The reply to a line, as a value.
-#[derive(Clone, Copy)]
+#[derive(Clone, Copy, Debug, PartialEq, Eq)]
 pub enum LineAnswer {
     /// Nothing was changed.
     Refused(Reason),

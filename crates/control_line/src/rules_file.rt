@@ -15,7 +15,7 @@ use std::alloc::Global;
 use versions::CHARGE_LIMIT;
 
 /// Why a rules file makes no configuration.
-#[derive(Clone, Copy, PartialEq, Eq)]
+#[derive(Clone, Copy, Debug, PartialEq, Eq)]
 pub enum RulesFault {
     /// The file is refused: its line, counted from 1 among all lines, if the fault is a line's, and why.
     Refused { line: Option<u32>, reason: Reason },

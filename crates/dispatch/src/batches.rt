@@ -16,7 +16,7 @@ use packet_verdict::Kind;
 use read_section::Worker;
 
 /// How a batch ended.
-#[derive(Clone, Copy, PartialEq, Eq)]
+#[derive(Clone, Copy, Debug, PartialEq, Eq)]
 pub struct BatchDone {
     /// How many datagrams it judged.
     pub judged: u64,
@@ -25,7 +25,7 @@ pub struct BatchDone {
 }
 
 /// Why a batch ended early.
-#[derive(Clone, Copy, PartialEq, Eq)]
+#[derive(Clone, Copy, Debug, PartialEq, Eq)]
 pub enum BatchFault {
     /// X1: the source failed, which was counted.
     ReceiveFailed,

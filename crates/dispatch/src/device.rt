@@ -7,7 +7,7 @@ use ipv4_fields::Endpoint;
 use packet_verdict::Verdict;
 
 /// A device failed.
-#[derive(Clone, Copy, PartialEq, Eq, Drop)]
+#[derive(Clone, Copy, Debug, PartialEq, Eq, Drop)]
 pub struct Failed;
 
 /// A source of datagrams.

@@ -19,7 +19,7 @@ pub(crate) fn place(kind: Kind) -> usize
 }
 
 /// How often each kind was counted.
-#[derive(Clone, Copy, PartialEq, Eq)]
+#[derive(Clone, Copy, Debug, PartialEq, Eq)]
 pub struct Totals {
     /// A total for each kind, in the order of `Kind`.
     pub counts: [u64; KINDS],

@@ -59,7 +59,7 @@ impl Source for Datagrams {
 }
 
 // The destination of one send's bytes, and their number.
-#[derive(Clone, Copy)]
+#[derive(Clone, Copy, Debug)]
 pub(crate) struct Extent {
     pub(crate) to: Endpoint,
     pub(crate) len: usize,

@@ -30,7 +30,7 @@ pub fn limits_as_numbers()
 {}
 
 /// N1: the counter has counted `COUNT_LIMIT` times.
-#[derive(Clone, Copy, PartialEq, Eq)]
+#[derive(Clone, Copy, Debug, PartialEq, Eq)]
 pub struct CountFull;
 
 /// Counts in a tally. Contracts see its log: to which words it added 1.

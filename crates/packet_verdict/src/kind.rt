@@ -1,7 +1,7 @@
 //! The kinds by which packets are counted (docs/SWITCH.md, "Tallies").
 
 /// A kind of count: a verdict, or a device that failed.
-#[derive(Clone, Copy, PartialEq, Eq)]
+#[derive(Clone, Copy, Debug, PartialEq, Eq)]
 pub enum Kind {
     Malformed,
     NoGroup,

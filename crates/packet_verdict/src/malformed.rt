@@ -10,7 +10,7 @@ ghost use Rattle.packet_verdict.specs.declared.verdict.Verdict.TheVariants.{Malf
 use ipv4_fields::{Field, field};
 
 /// The first rule that a malformed packet breaks, in the order in which the rules are tested.
-#[derive(Clone, Copy, PartialEq, Eq)]
+#[derive(Clone, Copy, Debug, PartialEq, Eq)]
 pub enum Malformation {
     /// It has fewer than 20 bytes.
     Short,

@@ -7,7 +7,7 @@ use crate::kind::Kind;
 use ipv4_fields::Endpoint;
 
 /// The verdict on a packet. `group` is the group's key, `member` the member's number in it.
-#[derive(Clone, Copy, PartialEq, Eq)]
+#[derive(Clone, Copy, Debug, PartialEq, Eq)]
 pub enum Verdict {
     /// It is not one whole UDP datagram.
     Malformed,

@@ -6,7 +6,7 @@ ghost use Rattle.versions.specs.declared.fault.StepFault.TheVariants.{OutOfMemor
 use std::alloc::AllocError;
 
 /// Why a world was not made, or made no step. The world is then as before.
-#[derive(Clone, Copy, PartialEq, Eq)]
+#[derive(Clone, Copy, Debug, PartialEq, Eq)]
 pub enum StepFault {
     /// The step is not legal here, whatever word it would load or store.
     NotLegal,

@@ -5,7 +5,7 @@
 /// A `worker` is 0 to 63, a `row` 0 to 15. A `place` is that of a word in the whole table: 0 is `current`, 1 + w the read word
 /// of worker w, row r begins at 65 + 8192 * r, and page q at 131,137 + 16 * q; a scan's is 1 to 64, a fetch's and a fill's 65 to
 /// 655,424. A step with any other number is not legal.
-#[derive(Clone, Copy)]
+#[derive(Clone, Copy, Debug)]
 pub enum Step {
     /// The worker loads `current`.
     Peek { worker: usize },
@@ -26,7 +26,7 @@ pub enum Step {
 }
 
 /// An entry of a log: a step, and the word that it loaded or stored.
-#[derive(Clone, Copy)]
+#[derive(Clone, Copy, Debug)]
 pub struct Entry {
     pub step: Step,
     pub word: u64,

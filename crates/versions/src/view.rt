@@ -7,7 +7,7 @@ use crate::step::Entry;
 use std::collections::LinkedList;
 
 /// The stage of a worker in the order of its steps.
-#[derive(Clone, Copy)]
+#[derive(Clone, Copy, Debug)]
 pub enum Stage {
     /// Outside a read section, without a peek since the last one.
     Outside,
