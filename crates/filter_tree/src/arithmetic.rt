@@ -3,7 +3,7 @@
 use std::alloc::Allocator;
 
 /// The protocol whose data a packet accessor reads.
-#[derive(Clone, Copy)]
+#[derive(Clone, Copy, Debug, PartialEq, Eq)]
 pub enum Protocol {
     /// `ip`: the index counts from the packet's first byte.
     Ip,
@@ -16,7 +16,7 @@ pub enum Protocol {
 }
 
 /// The number of bytes that a packet accessor reads, as a big-endian number.
-#[derive(Clone, Copy)]
+#[derive(Clone, Copy, Debug, PartialEq, Eq)]
 pub enum Size {
     One,
     Two,
@@ -24,7 +24,7 @@ pub enum Size {
 }
 
 /// An operator on two 32-bit numbers. Sums, differences, products and shifts are modulo 2^32.
-#[derive(Clone, Copy)]
+#[derive(Clone, Copy, Debug, PartialEq, Eq)]
 pub enum Operator {
     /// `|`.
     Or,

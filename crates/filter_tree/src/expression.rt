@@ -5,7 +5,7 @@ use crate::primitive::Primitive;
 use std::alloc::Allocator;
 
 /// The comparison of a relation's two sides, as unsigned numbers.
-#[derive(Clone, Copy)]
+#[derive(Clone, Copy, Debug, PartialEq, Eq)]
 pub enum Relation {
     /// `>`.
     Greater,

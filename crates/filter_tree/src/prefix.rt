@@ -6,7 +6,7 @@ ghost use Rattle.filter_tree.specs.Prefix.{IsPrefix, covers};
 use std::marker::Model;
 
 /// A network: the first bits of an address, whose other bits are 0.
-#[derive(Clone, Copy)]
+#[derive(Clone, Copy, Debug, PartialEq, Eq)]
 pub struct Prefix {
     address: u32,
     bits: u32,

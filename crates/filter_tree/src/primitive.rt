@@ -3,7 +3,7 @@
 use crate::prefix::Prefix;
 
 /// The end of a packet that a primitive tests.
-#[derive(Clone, Copy)]
+#[derive(Clone, Copy, Debug, PartialEq, Eq)]
 pub enum Direction {
     /// `src`.
     Source,
@@ -16,7 +16,7 @@ pub enum Direction {
 }
 
 /// The protocol that `port` or `portrange` names.
-#[derive(Clone, Copy)]
+#[derive(Clone, Copy, Debug, PartialEq, Eq)]
 pub enum Transport {
     /// `tcp`.
     Tcp,
@@ -27,7 +27,7 @@ pub enum Transport {
 }
 
 /// A primitive without arithmetic. Addresses and ports are in host order.
-#[derive(Clone, Copy)]
+#[derive(Clone, Copy, Debug, PartialEq, Eq)]
 pub enum Primitive {
     /// `ip`.
     Ip,

@@ -11,7 +11,7 @@ use crate::arithmetic::{Arith, Protocol};
 use std::alloc::Allocator;
 
 /// The protocols whose data accessors read.
-#[derive(Clone, Copy)]
+#[derive(Clone, Copy, Debug, PartialEq, Eq)]
 pub struct Accesses {
     pub ip: bool,
     pub tcp: bool,

@@ -4,7 +4,7 @@ ghost use Rattle.std.specs.Prelude.{◌≡◌};
 ghost use Rattle.filter_tree.specs.Outcome.{◌and_then◌, ◌or_else◌, answer, opposite};
 
 /// The outcome of an expression, or of a test in it, on a packet.
-#[derive(Clone, Copy, PartialEq, Eq)]
+#[derive(Clone, Copy, Debug, PartialEq, Eq)]
 pub enum Truth {
     Yes,
     No,
