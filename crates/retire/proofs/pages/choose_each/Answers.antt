@@ -1,4 +1,5 @@
 use Rattle.std.proofs.Common.{◌∙◌, IfSome, [], ◌∷◌, ap, arith, length, refl, subst, sym}
+use Rattle.std.proofs.lemmas.Grind.{common_steps}
 use Rattle.config_image.specs.Walk.{words_of_programs}
 use Rattle.config_image.proofs.ProgramLemmas.{parts-by_words}
 use Rattle.retire.specs.body.Allocation.{IsBehindNoneFree, IsPassing, NoneFree, AllocationValue, TakesOneMore}
@@ -64,3 +65,12 @@ returns-clause-below g c = let view = c.args.operator.now.view in let of = c.of-
     let run = run_beside view (words_of_programs of.config.now) of.pages.now c.of-current.ensures.none_passed.counted (current_held view of.config.now of.pages.now c.of-current.ensures.stands) (words_of_programs c.args.config.now)
     _ _ _ _ h.0 _ _ (ap (λ b. words_of_programs b.now) h.1) (ap (λ b. b.now) h.2) c.in_default.ensures.none in
     run.allocation_is.below
+
+pub loop-words-init : goal.loop-words-init
+loop-words-init g c = grind (arith, common_steps)
+
+pub loop-words-smaller : goal.loop-words-smaller
+loop-words-smaller g c = grind (arith, common_steps)
+
+pub returns-clause-first : goal.returns-clause-first
+returns-clause-first g c = grind (arith, common_steps)
