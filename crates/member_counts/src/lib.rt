@@ -9,8 +9,6 @@ mod counts;
 mod key;
 mod log;
 mod table;
-#[cfg(test)]
-mod tests;
 
 pub use counts::{Counts, GroupCounts, MemberCounts};
 pub use key::{CountKey, has};

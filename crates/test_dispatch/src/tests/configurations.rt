@@ -26,7 +26,7 @@ pub fn socket(member: u16) -> Endpoint {
     }
 }
 
-fn applied(rt: &impl Abort, config: &Config, command: &Command) -> Config {
+pub fn applied(rt: &impl Abort, config: &Config, command: &Command) -> Config {
     config.apply(command).expect(rt, "the command is applied")
 }
 
