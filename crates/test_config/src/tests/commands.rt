@@ -154,8 +154,7 @@ struct Row {
 fn holds(rt: &impl Abort, alloc: Global, row: &Row) {
     let config = after_each(rt, alloc, row.acts);
     let next = applied(rt, &config, command(rt, alloc, row.act));
-    assert!(rt; has(&config, &row.before));
-    assert!(rt; has(&next, &row.after));
+    assert!(rt; has(&config, &row.before) && has(&next, &row.after));
 }
 
 const FOUR_GROUPS: &[Act] = &[Act::Add(53), Act::Add(99), Act::Add(7), Act::Add(60)];
@@ -276,37 +275,41 @@ static STEPS: [(Act, u64); 10] = [
     (Act::Remove(53), 2),
 ];
 
-// Applies a command that makes this charge; returns whether memory sufficed.
-fn applies<'a>(
-    rt: &impl Abort,
-    config: &mut Config<&'a LocalHeap>,
-    command: &Command,
-    charge: u64,
-) -> bool {
+// Applies a command that makes this charge; returns whether memory sufficed. None if another refusal is returned, or
+// the charge is wrong.
+fn applies<'a>(config: &mut Config<&'a LocalHeap>, command: &Command, charge: u64) -> Option<bool> {
     let before = config.charge();
-    match config.apply(command) {
-        Ok(next) => *config = next,
-        Err(refusal) => {
-            // Only memory is refused.
-            assert!(rt; refusal == Refusal::OutOfMemory && config.charge() == before);
-            return false;
+    let (suffices, expected) = match config.apply(command) {
+        Ok(next) => {
+            *config = next;
+            (true, charge)
         }
+        Err(Refusal::OutOfMemory) => (false, before),
+        Err(_) => return None,
+    };
+    if config.charge() == expected {
+        Some(suffices)
+    } else {
+        None
     }
-    assert!(rt; config.charge() == charge);
-    true
 }
 
 // Applies the commands until one is refused; returns the number that were applied.
-fn applied_within<R: Abort>(rt: &R, alloc: Global, heap: &LocalHeap) -> Option<usize> {
-    let mut config = Config::new(heap);
+fn steps_of<'a>(rt: &impl Abort, alloc: Global, config: &mut Config<&'a LocalHeap>) -> usize {
     let mut steps = 0usize;
     for (act, charge) in &STEPS {
-        if !applies(rt, &mut config, &command(rt, alloc, *act), *charge) {
+        let applied = applies(config, &command(rt, alloc, *act), *charge);
+        if !applied.expect(rt, "only memory is refused, and the charge is right") {
             break;
         }
         steps = steps.saturating_add(1);
     }
-    Some(steps)
+    steps
+}
+
+fn applied_within<R: Abort>(rt: &R, alloc: Global, heap: &LocalHeap) -> Option<usize> {
+    let mut config = Config::new(heap);
+    Some(steps_of(rt, alloc, &mut config))
 }
 
 #[test]

@@ -83,50 +83,63 @@ fn texts_and_their_words(rt: HostRuntime) {
     }
 }
 
-fn read_again(rt: &impl Abort, heap: &LocalHeap, program: &Program<&LocalHeap>) -> usize {
+// How far memory lasts. None if another fault is returned, or a result is wrong.
+type Lasted = Option<usize>;
+
+fn read_again(heap: &LocalHeap, program: &Program<&LocalHeap>) -> Lasted {
     match read_hex(heap, IP_HEX.as_bytes()) {
-        Ok(words) => {
-            assert!(rt; words.as_slice() == program.words());
-            5
-        }
-        Err(fault) => {
-            assert!(rt; fault == FormatFault::OutOfMemory);
-            4
-        }
+        Ok(words) if words.as_slice() == program.words() => Some(5),
+        Err(FormatFault::OutOfMemory) => Some(4),
+        _ => None,
     }
 }
 
-fn printed_within(rt: &impl Abort, heap: &LocalHeap, program: &Program<&LocalHeap>) -> usize {
-    let Ok(in_decimal) = print_ddd(heap, program) else {
-        return 1;
-    };
-    let Ok(in_c) = print_dd(heap, program) else {
-        return 2;
-    };
-    let Ok(in_hex) = print_hex(heap, program) else {
-        return 3;
-    };
-    assert!(rt; in_decimal.as_str() == IP_DDD);
-    assert!(rt; in_c.as_str() == IP_DD);
-    assert!(rt; in_hex.as_str() == IP_HEX);
-    read_again(rt, heap, program)
+// Each text is kept while the next one is printed.
+fn in_hex_within(heap: &LocalHeap, program: &Program<&LocalHeap>) -> Lasted {
+    match print_hex(heap, program) {
+        Ok(printed) if printed.as_str() == IP_HEX => read_again(heap, program),
+        Ok(_) => None,
+        Err(_) => Some(3),
+    }
 }
 
-// Reads a program in a heap's memory, and prints it there in each format: returns how far memory lasted.
-fn formatted_within<R: Abort>(rt: &R, _alloc: Global, heap: &LocalHeap) -> Option<usize> {
+fn in_c_within(heap: &LocalHeap, program: &Program<&LocalHeap>) -> Lasted {
+    match print_dd(heap, program) {
+        Ok(printed) if printed.as_str() == IP_DD => in_hex_within(heap, program),
+        Ok(_) => None,
+        Err(_) => Some(2),
+    }
+}
+
+fn in_decimal_within(heap: &LocalHeap, program: &Program<&LocalHeap>) -> Lasted {
+    match print_ddd(heap, program) {
+        Ok(printed) if printed.as_str() == IP_DDD => in_c_within(heap, program),
+        Ok(_) => None,
+        Err(_) => Some(1),
+    }
+}
+
+fn checked_within(heap: &LocalHeap, program: &Program<&LocalHeap>) -> Lasted {
+    if program.words() == IP.as_slice() {
+        in_decimal_within(heap, program)
+    } else {
+        None
+    }
+}
+
+fn accepted_within(heap: &LocalHeap, words: Vec<u64, &LocalHeap>) -> Lasted {
+    match Program::new(words) {
+        Ok(program) => checked_within(heap, &program),
+        Err(_) => None,
+    }
+}
+
+// Reads a program in a heap's memory, and prints it there in each format.
+fn formatted_within<R: Abort>(_rt: &R, _alloc: Global, heap: &LocalHeap) -> Lasted {
     match read_ddd(heap, IP_DDD.as_bytes()) {
-        Ok(words) => {
-            let program = Program::new(words)
-                .ok()
-                .expect(rt, "the words are accepted");
-            assert!(rt; program.words() == IP.as_slice());
-            Some(printed_within(rt, heap, &program))
-        }
-        Err(fault) => if fault == FormatFault::OutOfMemory {
-            Some(0)
-        } else {
-            None
-        },
+        Ok(words) => accepted_within(heap, words),
+        Err(FormatFault::OutOfMemory) => Some(0),
+        Err(_) => None,
     }
 }
 

@@ -20,8 +20,10 @@ pub fn steps_in_heaps<R: Abort, F: Fn(&R, Global, &LocalHeap) -> Option<usize>>(
     for _ in 0..heaps {
         let heap = LocalHeap::new(alloc, size).expect(rt, "memory");
         let steps = steps_in(rt, alloc, &heap).expect(rt, "only memory is refused");
-        assert!(rt; least <= steps, "a heap of {size} bytes");
-        assert!(rt; heap.used() == 0, "a heap of {size} bytes");
+        assert!(rt;
+            least <= steps && heap.used() == 0,
+            "a heap of {size} bytes"
+        );
         least = steps;
         size = size.saturating_add(16);
     }
