@@ -96,6 +96,23 @@ const fn judged(judged: u64, more: bool) -> Result<BatchDone, BatchFault> {
     Ok(BatchDone { judged, more })
 }
 
+// A batch of at most `limit` datagrams has this result.
+fn batch_is<S: Source, O: Outbox>(
+    bench: &mut Bench,
+    source: &mut S,
+    outbox: &mut O,
+    limit: u64,
+    wanted: Result<BatchDone, BatchFault>,
+) -> bool {
+    batch_of(bench, source, outbox, limit) == wanted
+}
+
+// Two datagrams were sent, both to the third member.
+fn both_are_sent(sends: &Sends) -> bool {
+    (sends.to(0), sends.to(1)) == (Some(socket(3)), Some(socket(3)))
+        && (sends.count(), sends.bytes().len()) == (2, 58)
+}
+
 fn judges_all_four(
     rt: &impl Abort,
     bench: &mut Bench,
@@ -104,38 +121,46 @@ fn judges_all_four(
     limit: u64,
     more: bool,
 ) {
-    let done = batch_of(bench, source, sends, limit);
-    assert!(rt; done == judged(4, more));
+    assert!(rt; batch_is(bench, source, sends, limit, judged(4, more)) && both_are_sent(sends));
     has_totals(rt, &mut bench.tally, &[1, 1, 0, 0, 2, 0, 0]);
-    assert!(rt; (sends.to(0), sends.to(1)) == (Some(socket(3)), Some(socket(3))));
-    assert!(rt; (sends.count(), sends.bytes().len()) == (2, 58));
+}
+
+fn are_judged(rt: &impl Abort, alloc: Global, bench: &mut Bench, limit: u64, more: bool) {
+    let mut source = four_datagrams(rt, alloc);
+    let mut sends = two_sends(rt, alloc);
+    judges_all_four(rt, bench, &mut source, &mut sends, limit, more);
 }
 
 #[test]
 fn batch_at_limit_and_at_end(rt: HostRuntime) {
-    for (limit, more) in [(4, true), (10, false)] {
-        let mut bench = new_bench(&rt, rt.alloc());
-        let mut source = four_datagrams(&rt, rt.alloc());
-        let mut sends = two_sends(&rt, rt.alloc());
-        judges_all_four(&rt, &mut bench, &mut source, &mut sends, limit, more);
-    }
+    are_judged(&rt, rt.alloc(), &mut new_bench(&rt, rt.alloc()), 4, true);
+    are_judged(&rt, rt.alloc(), &mut new_bench(&rt, rt.alloc()), 10, false);
 }
 
 fn none_is_asked(rt: &impl Abort, bench: &mut Bench, source: &mut FailsAfter, sends: &mut Sends) {
-    assert!(rt; batch_of(bench, source, sends, 0) == judged(0, true));
-    assert!(rt; !source.failed);
+    assert!(rt; batch_is(bench, source, sends, 0, judged(0, true)) && !source.failed);
+}
+
+fn asks_nothing(rt: &impl Abort, alloc: Global, bench: &mut Bench) {
+    let mut source = failing_after(rt, alloc, 0);
+    let mut sends = two_sends(rt, alloc);
+    none_is_asked(rt, bench, &mut source, &mut sends);
 }
 
 #[test]
 fn batch_of_none_asks_nothing(rt: HostRuntime) {
-    let mut bench = new_bench(&rt, rt.alloc());
-    let mut source = failing_after(&rt, rt.alloc(), 0);
-    let mut sends = two_sends(&rt, rt.alloc());
-    none_is_asked(&rt, &mut bench, &mut source, &mut sends);
+    asks_nothing(&rt, rt.alloc(), &mut new_bench(&rt, rt.alloc()));
 }
 
 // The last worker of a table, and an outbox that looks at it and at a tally, with a counter of that.
-fn looking(rt: &impl Abort, alloc: Global) -> (Worker, Counter, Looks) {
+#[derive(Drop)]
+struct Watched {
+    worker: Worker,
+    counter: Counter,
+    outbox: Looks,
+}
+
+fn new_watched(rt: &impl Abort, alloc: Global) -> Watched {
     let (operator, mut workers) = open(three_members(rt, alloc)).expect(rt, "a table opens");
     let worker = workers.pop().expect(rt, "a table has workers");
     let (tally, counter) = new_tally(rt, alloc);
@@ -146,32 +171,42 @@ fn looking(rt: &impl Abort, alloc: Global) -> (Worker, Counter, Looks) {
         delivered: 0,
         sends: two_sends(rt, alloc),
     };
-    (worker, counter, outbox)
+    Watched {
+        worker,
+        counter,
+        outbox,
+    }
 }
 
-fn sends_from_outside(
-    rt: &impl Abort,
-    worker: &mut Worker,
-    counter: &mut Counter,
-    source: &mut Datagrams,
-    outbox: &mut Looks,
-) {
+fn sends_from_outside(rt: &impl Abort, watched: &mut Watched, source: &mut Datagrams) {
     let mut buf = [0; 64];
-    let done = batch(worker, counter, source, outbox, &mut buf, 4);
+    let done = batch(
+        &mut watched.worker,
+        &mut watched.counter,
+        source,
+        &mut watched.outbox,
+        &mut buf,
+        4,
+    );
     assert!(rt; done == judged(4, true));
+    let outbox = &watched.outbox;
     assert!(rt; (outbox.sends.count(), outbox.inside, outbox.delivered) == (2, 0, 2));
-    worker.enter().abandon();
-    let _ = outbox.send(socket(1), &[]);
-    assert!(rt; outbox.inside == 1);
+}
+
+fn sees_a_worker_inside(rt: &impl Abort, watched: &mut Watched) {
+    watched.worker.enter().abandon();
+    let _ = watched.outbox.send(socket(1), &[]);
+    assert!(rt; watched.outbox.inside == 1);
 }
 
 // A send that blocks holds no version, and its datagram is in the totals. A section that is abandoned shows that the outbox would
 // see a worker that is inside.
 #[test]
 fn sent_after_leaving_and_counting(rt: HostRuntime) {
-    let (mut worker, mut counter, mut outbox) = looking(&rt, rt.alloc());
     let mut source = four_datagrams(&rt, rt.alloc());
-    sends_from_outside(&rt, &mut worker, &mut counter, &mut source, &mut outbox);
+    let mut watched = new_watched(&rt, rt.alloc());
+    sends_from_outside(&rt, &mut watched, &mut source);
+    sees_a_worker_inside(&rt, &mut watched);
 }
 
 fn first_send_fails(
@@ -180,20 +215,22 @@ fn first_send_fails(
     source: &mut Datagrams,
     outbox: &mut FailsFirst,
 ) {
-    assert!(rt; batch_of(bench, source, outbox, 4) == judged(4, true));
+    assert!(rt; batch_is(bench, source, outbox, 4, judged(4, true)) && outbox.sends.count() == 1);
     has_totals(rt, &mut bench.tally, &[1, 1, 0, 0, 2, 1, 0]);
-    assert!(rt; outbox.sends.count() == 1);
+}
+
+fn fails_first(rt: &impl Abort, alloc: Global, bench: &mut Bench) {
+    let mut source = four_datagrams(rt, alloc);
+    let mut outbox = FailsFirst {
+        failed: false,
+        sends: two_sends(rt, alloc),
+    };
+    first_send_fails(rt, bench, &mut source, &mut outbox);
 }
 
 #[test]
 fn outbox_fails_first(rt: HostRuntime) {
-    let mut bench = new_bench(&rt, rt.alloc());
-    let mut source = four_datagrams(&rt, rt.alloc());
-    let mut outbox = FailsFirst {
-        failed: false,
-        sends: two_sends(&rt, rt.alloc()),
-    };
-    first_send_fails(&rt, &mut bench, &mut source, &mut outbox);
+    fails_first(&rt, rt.alloc(), &mut new_bench(&rt, rt.alloc()));
 }
 
 fn third_receive_fails(
@@ -202,17 +239,19 @@ fn third_receive_fails(
     source: &mut FailsAfter,
     sends: &mut Sends,
 ) {
-    assert!(rt; batch_of(bench, source, sends, 10) == Err(BatchFault::ReceiveFailed));
-    let at_failure = totals(&mut bench.tally);
-    assert!(rt; batch_of(bench, source, sends, 10) == judged(2, false));
-    assert!(rt; at_failure == [0, 0, 0, 0, 2, 0, 1]);
+    assert!(rt; batch_is(bench, source, sends, 10, Err(BatchFault::ReceiveFailed)));
+    has_totals(rt, &mut bench.tally, &[0, 0, 0, 0, 2, 0, 1]);
+    assert!(rt; batch_is(bench, source, sends, 10, judged(2, false)));
     has_totals(rt, &mut bench.tally, &[1, 1, 0, 0, 2, 0, 1]);
+}
+
+fn fails_third(rt: &impl Abort, alloc: Global, bench: &mut Bench) {
+    let mut source = failing_after(rt, alloc, 2);
+    let mut sends = two_sends(rt, alloc);
+    third_receive_fails(rt, bench, &mut source, &mut sends);
 }
 
 #[test]
 fn source_fails_third(rt: HostRuntime) {
-    let mut bench = new_bench(&rt, rt.alloc());
-    let mut source = failing_after(&rt, rt.alloc(), 2);
-    let mut sends = two_sends(&rt, rt.alloc());
-    third_receive_fails(&rt, &mut bench, &mut source, &mut sends);
+    fails_third(&rt, rt.alloc(), &mut new_bench(&rt, rt.alloc()));
 }

@@ -26,7 +26,7 @@ enum Given {
     NoMembers(Endpoint),
 }
 
-const fn delivered(group: Endpoint, member: u32, bytes: usize) -> Verdict {
+fn delivered(group: Endpoint, member: u32, bytes: usize) -> Verdict {
     Verdict::Deliver {
         group,
         member,
@@ -35,12 +35,50 @@ const fn delivered(group: Endpoint, member: u32, bytes: usize) -> Verdict {
     }
 }
 
-const fn dropped(member: u32) -> Verdict {
-    Verdict::Dropped {
-        group: GROUP,
-        member,
-    }
-}
+// Packets for the group's member 1, for its member 2, and for member 1 of the other group.
+const FIRST: Verdict = Verdict::Deliver {
+    group: GROUP,
+    member: 1,
+    to: OTHER,
+    bytes: 28,
+};
+
+const FIRST_MOST: Verdict = Verdict::Deliver {
+    group: GROUP,
+    member: 1,
+    to: OTHER,
+    bytes: usize::MAX,
+};
+
+const FIRST_DROPS: Verdict = Verdict::Dropped {
+    group: GROUP,
+    member: 1,
+};
+
+const SECOND_DROPS: Verdict = Verdict::Dropped {
+    group: GROUP,
+    member: 2,
+};
+
+const OTHER_FIRST: Verdict = Verdict::Deliver {
+    group: OTHER,
+    member: 1,
+    to: OTHER,
+    bytes: 100,
+};
+
+static GIVEN: [Given; 10] = [
+    Given::Verdict(Verdict::Malformed, false),
+    Given::Verdict(FIRST, false),
+    Given::Verdict(FIRST, true),
+    Given::Verdict(Verdict::NoGroup, false),
+    Given::Verdict(SECOND_DROPS, true),
+    Given::Verdict(OTHER_FIRST, false),
+    Given::Verdict(Verdict::NoMembers, false),
+    Given::NoMembers(OTHER),
+    Given::NoMembers(OTHER),
+    Given::Verdict(FIRST_MOST, false),
+];
 
 // Counts them in the log, and each full log in the table.
 fn count_all(rt: &impl Abort, table: &mut MemberTable, log: &mut VerdictLog, given: &[Given]) {
@@ -78,32 +116,31 @@ fn is_group(alloc: Global, table: &MemberTable, group: Endpoint, text: &str) -> 
     }
 }
 
+// A group's member, and its counts.
+static MEMBERS: [(Endpoint, u32, &str); 3] = [
+    (
+        GROUP,
+        1,
+        "delivered 3 dropped 0 sendfailed 1 bytes 18446744073709551615",
+    ),
+    (GROUP, 2, "delivered 0 dropped 1 sendfailed 0 bytes 0"),
+    (OTHER, 2, "delivered 0 dropped 0 sendfailed 0 bytes 0"),
+];
+
+static GROUPS: [(Endpoint, &str); 2] = [
+    (GROUP, "delivered 3 dropped 1 nomembers 0 sendfailed 1"),
+    (OTHER, "delivered 1 dropped 0 nomembers 2 sendfailed 0"),
+];
+
 fn prints_counts(rt: &impl Abort, alloc: Global, table: &mut MemberTable, log: &mut VerdictLog) {
-    let given = [
-        Given::Verdict(Verdict::Malformed, false),
-        Given::Verdict(delivered(GROUP, 1, 28), false),
-        Given::Verdict(delivered(GROUP, 1, 28), true),
-        Given::Verdict(Verdict::NoGroup, false),
-        Given::Verdict(dropped(2), true),
-        Given::Verdict(delivered(OTHER, 1, 100), false),
-        Given::Verdict(Verdict::NoMembers, false),
-        Given::NoMembers(OTHER),
-        Given::NoMembers(OTHER),
-        Given::Verdict(delivered(GROUP, 1, usize::MAX), false),
-    ];
-    count_all(rt, table, log, &given);
-    assert!(rt; log.is_empty());
-    assert!(rt; table.len() == 4);
-    let first = "delivered 3 dropped 0 sendfailed 1 bytes 18446744073709551615";
-    assert!(rt; is_member(alloc, table, GROUP, 1, first));
-    let second = "delivered 0 dropped 1 sendfailed 0 bytes 0";
-    assert!(rt; is_member(alloc, table, GROUP, 2, second));
-    let never = "delivered 0 dropped 0 sendfailed 0 bytes 0";
-    assert!(rt; is_member(alloc, table, OTHER, 2, never));
-    let group = "delivered 3 dropped 1 nomembers 0 sendfailed 1";
-    assert!(rt; is_group(alloc, table, GROUP, group));
-    let other = "delivered 1 dropped 0 nomembers 2 sendfailed 0";
-    assert!(rt; is_group(alloc, table, OTHER, other));
+    count_all(rt, table, log, &GIVEN);
+    assert!(rt; log.is_empty() && table.len() == 4);
+    for (group, member, text) in &MEMBERS {
+        assert!(rt; is_member(alloc, table, *group, *member, text));
+    }
+    for (group, text) in &GROUPS {
+        assert!(rt; is_group(alloc, table, *group, text));
+    }
 }
 
 #[test]
@@ -113,23 +150,35 @@ fn counts_are_printed(rt: HostRuntime) {
     prints_counts(&rt, rt.alloc(), &mut table, &mut log);
 }
 
+// Packets for other members than the first one need room.
+static OTHERS: [(Endpoint, u32); 3] = [(GROUP, 0), (GROUP, 2), (OTHER, 1)];
+
+fn others_need_room(rt: &impl Abort, log: &mut VerdictLog) {
+    for (group, member) in &OTHERS {
+        assert!(rt; !log.judged_again(&delivered(*group, *member, 28)));
+    }
+}
+
 // One run fills the log. Packets of its member, and packets of no member, are counted all the same.
-fn counts_without_room(rt: &impl Abort, alloc: Global, table: &mut MemberTable, log: &mut VerdictLog) {
-    assert!(rt; !log.judged_again(&delivered(GROUP, 0, 28)));
+fn judges_again(rt: &impl Abort, log: &mut VerdictLog) {
+    others_need_room(rt, log);
     assert!(rt; log.judged_again(&Verdict::NoMembers));
-    assert!(rt; log.is_empty());
-    assert!(rt; !log.is_full());
-    log.judged(&delivered(GROUP, 1, 28));
-    assert!(rt; log.is_full());
-    assert!(rt; log.judged_again(&delivered(GROUP, 1, usize::MAX)));
-    assert!(rt; log.judged_again(&dropped(1)));
-    assert!(rt; !log.judged_again(&delivered(GROUP, 0, 28)));
-    assert!(rt; !log.judged_again(&delivered(GROUP, 2, 28)));
-    assert!(rt; !log.judged_again(&delivered(OTHER, 1, 28)));
+    assert!(rt; log.is_empty() && !log.is_full());
+    log.judged(&FIRST);
+    assert!(rt; log.is_full() && log.judged_again(&FIRST_MOST) && log.judged_again(&FIRST_DROPS));
+    others_need_room(rt, log);
+}
+
+fn counts_without_room(
+    rt: &impl Abort,
+    alloc: Global,
+    table: &mut MemberTable,
+    log: &mut VerdictLog,
+) {
+    judges_again(rt, log);
     table.count(log);
     let first = "delivered 2 dropped 1 sendfailed 0 bytes 18446744073709551615";
-    assert!(rt; is_member(alloc, table, GROUP, 1, first));
-    assert!(rt; table.len() == 1);
+    assert!(rt; is_member(alloc, table, GROUP, 1, first) && table.len() == 1);
 }
 
 #[test]
@@ -139,34 +188,49 @@ fn counts_again_without_room(rt: HostRuntime) {
     counts_without_room(&rt, rt.alloc(), &mut table, &mut log);
 }
 
-// As many members of one group as are kept, of which the configuration has the one of number 7; then one key more.
-fn lets_go(rt: &impl Abort, config: &Config, table: &mut MemberTable, log: &mut VerdictLog) {
+// As many members of one group as are kept.
+fn fills(rt: &impl Abort, table: &mut MemberTable, log: &mut VerdictLog) {
     for member in 0..KEPT_LIMIT as u32 {
         let given = [Given::Verdict(delivered(GROUP, member, 1), false)];
         count_all(rt, table, log, &given);
     }
-    table.settle(config);
-    assert!(rt; table.len() == KEPT_LIMIT);
-    assert!(rt; table.gone() == Counts::none());
-    count_all(rt, table, log, &[Given::NoMembers(OTHER)]);
-    table.settle(config);
-    assert!(rt; table.len() == 1);
-    assert!(rt; table.member(GROUP, 7).delivered == 1);
-    assert!(rt; table.member(GROUP, 8).delivered == 0);
-    assert!(rt; table.gone().delivered == KEPT_LIMIT as u64 - 1);
-    assert!(rt; table.gone().no_members == 1);
 }
 
-#[test]
-fn lacking_keys_are_gone(rt: HostRuntime) {
+// Member 7 of the group is kept, and no other key.
+fn one_is_kept(table: &MemberTable) -> bool {
+    let gone = table.gone();
+    table.len() == 1
+        && table.member(GROUP, 7).delivered == 1
+        && table.member(GROUP, 8).delivered == 0
+        && gone.delivered == KEPT_LIMIT as u64 - 1
+        && gone.no_members == 1
+}
+
+// The configuration has member 7 of those that are kept; then one key more is counted.
+fn lets_go(rt: &impl Abort, config: &Config, table: &mut MemberTable, log: &mut VerdictLog) {
+    fills(rt, table, log);
+    table.settle(config);
+    assert!(rt; table.len() == KEPT_LIMIT && table.gone() == Counts::none());
+    count_all(rt, table, log, &[Given::NoMembers(OTHER)]);
+    table.settle(config);
+    assert!(rt; one_is_kept(table));
+}
+
+// The group with member 7.
+fn one_member(rt: &impl Abort, alloc: Global) -> Config {
     let key = GROUP;
-    let config = applied(&rt, &Config::new(rt.alloc()), &Command::AddGroup { key });
+    let config = applied(rt, &Config::new(alloc), &Command::AddGroup { key });
     let member = Command::Join {
         key,
         member: 7,
         to: OTHER,
     };
-    let config = applied(&rt, &config, &member);
+    applied(rt, &config, &member)
+}
+
+#[test]
+fn lacking_keys_are_gone(rt: HostRuntime) {
+    let config = one_member(&rt, rt.alloc());
     let mut table = MemberTable::new(rt.alloc());
     let mut log = VerdictLog::new(rt.alloc(), 64).expect(&rt, "a log");
     lets_go(&rt, &config, &mut table, &mut log);

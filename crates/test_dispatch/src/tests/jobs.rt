@@ -1,7 +1,8 @@
 //! A job of batches of one datagram, over a source that fails once.
 
 use super::batches::{failing_after, has_totals, new_tally, new_worker, two_sends};
-use dispatch::{Gate, Job, finish};
+use super::devices::FailsAfter;
+use dispatch::{Counter, Gate, Job, Sends, finish};
 use std::alloc::Global;
 use std::cell::Cell;
 use std::process::Abort;
@@ -49,17 +50,21 @@ fn ended(rt: &impl Abort, gate: &Expected, last: u64) {
     assert!(rt; gate.next.get() == last.wrapping_add(3));
 }
 
-// Two batches of a datagram, one that fails to receive, two of a datagram, and one at the end.
-fn runs_to_its_end(rt: &(impl Wait + Abort), alloc: Global, first: u64, last: u64) {
-    let (mut tally, counter) = new_tally(rt, alloc);
-    let job = Job {
+fn job(rt: &impl Abort, alloc: Global, counter: Counter) -> Job<FailsAfter, Sends> {
+    Job {
         worker: new_worker(rt, alloc),
         counter,
         source: failing_after(rt, alloc, 2),
         outbox: two_sends(rt, alloc),
         buffer: vec![in alloc; 0; 64].expect(rt, "a buffer"),
         limit: 1,
-    };
+    }
+}
+
+// Two batches of a datagram, one that fails to receive, two of a datagram, and one at the end.
+fn runs_to_its_end(rt: &(impl Wait + Abort), alloc: Global, first: u64, last: u64) {
+    let (mut tally, counter) = new_tally(rt, alloc);
+    let job = job(rt, alloc, counter);
     let gate = Expected {
         next: Cell::new(first),
         step: 3,
@@ -67,10 +72,10 @@ fn runs_to_its_end(rt: &(impl Wait + Abort), alloc: Global, first: u64, last: u6
         ended: Cell::new(0),
         wrong: Cell::new(0),
     };
-    let done = finish(rt, &gate, (first, 3), job);
+    let sent = finish(rt, &gate, (first, 3), job).outbox.count();
     ended(rt, &gate, last);
     has_totals(rt, &mut tally, &[1, 1, 0, 0, 2, 0, 1]);
-    assert!(rt; done.outbox.count() == 2);
+    assert!(rt; sent == 2);
 }
 
 #[test]
