@@ -69,6 +69,9 @@ same_key_itself key = (Decides-same_key key key).1 refl
 pub same_from_same_key : (key other : CountKey) → same_key key other ≡ true → key ≡ other
 same_from_same_key key other = (Decides-same_key key other).0
 
+pub same_key_from : (key other : CountKey) → key ≡ other → same_key key other ≡ true
+same_key_from key other = (Decides-same_key key other).1
+
 pub same_key-symm : (key other : CountKey) → same_key key other ≡ same_key other key
 same_key-symm key other = same_from_decides (same_key key other) (same_key other key) (Decides-same_key key other)
     (Decides-like (same_key other key) sym sym (Decides-same_key other key))

@@ -11,7 +11,7 @@ use Rattle.member_counts.specs.body.Step.{AddsAt, GrowsEach}
 use Rattle.member_counts.proofs.KeyLemmas.{is_at-order, order, same_test}
 use Rattle.member_counts.proofs.SumLemmas.{grows_at_kept, grows_at_new, grows_gone}
 
-as_kept : (key : CountKey) (entries : List (CountKey × Counts)) → lookup (is_at (order key)) entries ≡ lookup (same_key key) entries
+pub as_kept : (key : CountKey) (entries : List (CountKey × Counts)) → lookup (is_at (order key)) entries ≡ lookup (same_key key) entries
 as_kept key entries = ap (λ test. lookup test entries) (same_test key)
 
 module _ (entries : List (CountKey × Counts)) (gone : Counts) (key : CountKey) (counts : Counts) where

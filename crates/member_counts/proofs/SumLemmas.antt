@@ -108,7 +108,7 @@ grows_gone entries gone more =
     omega (arith, sum))
 
 -- a sum of counts over some keys, added in turn or at once
-capped-plus : (a b : ℕ) → capped (capped a + b) ≡ capped (a + b)
+pub capped-plus : (a b : ℕ) → capped (capped a + b) ≡ capped (a + b)
 capped-plus a b = by (leb_tells a (2 ^ 64 - 1))
   where
     by : ((leb a (2 ^ 64 - 1) ≡ true) × (a ≤ 2 ^ 64 - 1)) ⊎ ((leb a (2 ^ 64 - 1) ≡ false) × (2 ^ 64 - 1 < a)) → capped (capped a + b) ≡ capped (a + b)
@@ -132,7 +132,7 @@ of-plus_kept kind counts first (second ∷ entries) =
     ∙ capped-plus (of kind counts + of kind first.1) (kept_sum (of kind) (second ∷ entries))
     ∙ ap capped regrouped
 
-of-no_counts : (kind : Kind) → of kind no_counts ≡ 0
+pub of-no_counts : (kind : Kind) → of kind no_counts ≡ 0
 of-no_counts Delivered = refl
 of-no_counts Dropped = refl
 of-no_counts NoMembers = refl

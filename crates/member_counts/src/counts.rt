@@ -1,8 +1,7 @@
 //! The counts of verdicts, and the texts of these counts (docs/SWITCH.md, "Counters by member").
 
-ghost use Rattle.std.specs.Prelude.{◌+◌, ◌-◌, ◌≡◌, ◌≤◌, ◌^◌, Some, true};
-ghost use Rattle.member_counts.specs.Counts.{capped, delivered_one, group_part, group_text, member_part, member_text, no_counts, plus};
-ghost use Rattle.member_counts.specs.body.Runs.{is_sent};
+ghost use Rattle.std.specs.Prelude.{◌+◌, ◌-◌, ◌≡◌, ◌^◌, Some};
+ghost use Rattle.member_counts.specs.Counts.{capped, group_part, group_text, member_part, member_text, no_counts, plus};
 
 use std::fmt;
 
@@ -51,37 +50,12 @@ fn add_capped(count: &mut u64, more: u64)
     }
 }
 
-// Counts a delivered packet. `ended` is the number of those whose sends have ended, and is 0 again if the count does not grow.
-#[inline(always)]
-fn add_sent(count: &mut u64, ended: &mut u64)
-    requires { ended.old ≤ count.old }
-    ensures counted { count.new ≡ capped (count.old + 1) }
-    ensures sent { is_sent count.new ended.new ≡ true }
-    ensures bounded { ended.new ≤ count.new }
-{
-    let (sum, is_over) = count.overflowing_add(1);
-    *count = sum;
-    if is_over {
-        cap_sent(count, ended);
-    }
-}
-
 #[cold]
 #[inline(never)]
 fn cap(count: &mut u64)
     ensures { count.new ≡ 2 ^ 64 - 1 }
 {
     *count = u64::MAX;
-}
-
-#[cold]
-#[inline(never)]
-fn cap_sent(count: &mut u64, ended: &mut u64)
-    ensures count { count.new ≡ 2 ^ 64 - 1 }
-    ensures ended { ended.new ≡ 0 }
-{
-    *count = u64::MAX;
-    *ended = 0;
 }
 
 impl Counts {
@@ -111,19 +85,16 @@ impl Counts {
         }
     }
 
-    // Adds a delivered packet, each count to at most 2^64 - 1; then its send can fail. It is inlined always, so that no zero is added.
+    // Adds other counts in place, each sum at most 2^64 - 1. It is inlined always, so that no zero is added.
     #[inline(always)]
-    pub(crate) fn deliver(&mut self, bytes: u64, ended: &mut u64)
-        requires { ended.old ≤ self.old.delivered }
-        ensures counted { self.new ≡ plus self.old (delivered_one bytes) }
-        ensures sent { is_sent self.new.delivered ended.new ≡ true }
-        ensures bounded { ended.new ≤ self.new.delivered }
+    pub(crate) fn add(&mut self, other: &Counts)
+        ensures { self.new ≡ plus self.old other.now }
     {
-        add_sent(&mut self.delivered, ended);
-        add_capped(&mut self.dropped, 0);
-        add_capped(&mut self.no_members, 0);
-        add_capped(&mut self.send_failed, 0);
-        add_capped(&mut self.bytes, bytes);
+        add_capped(&mut self.delivered, other.delivered);
+        add_capped(&mut self.dropped, other.dropped);
+        add_capped(&mut self.no_members, other.no_members);
+        add_capped(&mut self.send_failed, other.send_failed);
+        add_capped(&mut self.bytes, other.bytes);
     }
 
     /// Returns the counts that a member has.

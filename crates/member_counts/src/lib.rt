@@ -8,6 +8,7 @@ ghost use Rattle.std.specs.Prelude.{◌≡◌};
 mod counts;
 mod key;
 mod log;
+mod packed;
 mod table;
 
 pub use counts::{Counts, GroupCounts, MemberCounts};

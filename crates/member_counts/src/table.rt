@@ -1,17 +1,18 @@
 //! The counts of all workers, by key (docs/SWITCH.md, "Counters by member").
 
-ghost use Rattle.std.specs.Prelude.{◌≡◌, ◌≤◌, IsSome, IsTrue, [], length};
+ghost use Rattle.std.specs.Prelude.{◌≡◌, ◌≤◌, IsSome, IsTrue, None, Some, [], length};
 ghost use Rattle.std.specs.List.{IsDistinct, filter};
 ghost use Rattle.std.specs.Map.{keys_of};
 ghost use Rattle.member_counts.specs.Counts.{no_counts};
 ghost use Rattle.member_counts.specs.Key.{has, same_key};
-ghost use Rattle.member_counts.specs.Log.{is_for};
+ghost use Rattle.member_counts.specs.Log.{is_for, last_run};
 ghost use Rattle.member_counts.specs.Table.{Conserves, CountsLog, group_counts, kept_after, kept_at, member_counts, settled, without_lacking};
 ghost use Rattle.member_counts.specs.body.Step.{AddsAt, GrowsEach};
+ghost use Rattle.member_counts.specs.declared.log.Run.{Run};
 
 use crate::counts::{Counts, GroupCounts, MemberCounts};
 use crate::key::{CountKey, has};
-use crate::log::VerdictLog;
+use crate::log::{Run, VerdictLog};
 use crate::{KEPT_LIMIT, ROOM_LIMIT};
 use ipv4_fields::Endpoint;
 use member_group::{Config, Group};
@@ -58,19 +59,56 @@ impl MemberTable {
         self.entries.len()
     }
 
-    // Adds counts at a key, or to what is gone if the key is not kept and there is no room for it.
-    fn add(&mut self, key: CountKey, counts: Counts)
-        ensures adds { AddsAt key counts self.old self.new }
-        ensures conserved { GrowsEach self.old counts self.new }
+    // Adds the counts of a run at its key, or to what is gone if the key is not kept and there is no room for it.
+    fn add(&mut self, run: &Run)
+        ensures adds { AddsAt run.now.key run.now.counts self.old self.new }
+        ensures conserved { GrowsEach self.old run.now.counts self.new }
     {
-        if let Some(sum) = self.entries.get_mut(&key) {
-            *sum = sum.plus(counts);
+        if let Some(sum) = self.entries.get_mut(&run.key) {
+            sum.add(&run.counts);
             return;
         }
-        if self.entries.len() < ROOM_LIMIT && self.entries.insert(key, counts).is_ok() {
+        self.add_new(run);
+    }
+
+    // The same for the last run of a log, which is made only if its key is not kept.
+    #[inline(always)]
+    fn add_last(&mut self, log: &VerdictLog, run: &Run)
+        requires { last_run log.now.entries ≡ Some run.now }
+        ensures adds { AddsAt run.now.key run.now.counts self.old self.new }
+        ensures conserved { GrowsEach self.old run.now.counts self.new }
+    {
+        if let Some(sum) = self.entries.get_mut(log.last_key()) {
+            log.add_last_to(sum);
             return;
         }
-        self.gone = self.gone.plus(counts);
+        self.add_new_last(log);
+    }
+
+    #[cold]
+    #[inline(never)]
+    fn add_new_last(&mut self, log: &VerdictLog)
+        requires { (run : Run) → last_run log.now.entries ≡ Some run → kept_at run.key self.old ≡ None }
+        ensures adds { (run : Run) → last_run log.now.entries ≡ Some run → AddsAt run.key run.counts self.old self.new }
+        ensures conserved { (run : Run) → last_run log.now.entries ≡ Some run → GrowsEach self.old run.counts self.new }
+    {
+        if let Some(last) = log.last() {
+            self.add_new(&last);
+        }
+    }
+
+    // Adds the counts of a run whose key is not kept. It is not inlined, as most keys are.
+    #[cold]
+    #[inline(never)]
+    fn add_new(&mut self, run: &Run)
+        requires { kept_at run.now.key self.old ≡ None }
+        ensures adds { AddsAt run.now.key run.now.counts self.old self.new }
+        ensures conserved { GrowsEach self.old run.now.counts self.new }
+    {
+        if self.entries.len() < ROOM_LIMIT && self.entries.insert(run.key, run.counts).is_ok() {
+            return;
+        }
+        self.gone = self.gone.plus(run.counts);
     }
 
     /// Adds each run of a log at its key.
@@ -83,10 +121,10 @@ impl MemberTable {
         ensures conserved { Conserves self.old log.now.entries self.new }
     {
         for entry in log.earlier() {
-            self.add(entry.key, entry.counts);
+            self.add(entry);
         }
         if let Some(last) = log.last() {
-            self.add(last.key, last.counts);
+            self.add_last(log, &last);
         }
     }
 

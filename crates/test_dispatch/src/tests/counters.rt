@@ -188,6 +188,108 @@ fn counts_again_without_room(rt: HostRuntime) {
     counts_without_room(&rt, rt.alloc(), &mut table, &mut log);
 }
 
+const NOTHING: &str = "delivered 0 dropped 0 sendfailed 0 bytes 0";
+
+// The first verdict after a log with one packet for the group's member 1 was counted and cleared; whether the log counts it as one of the same
+// member, and whether its send fails; then the counts of the group's members 1 and 2.
+static CLEARED: [(Verdict, bool, bool, &str, &str); 5] = [
+    (
+        FIRST,
+        true,
+        false,
+        "delivered 2 dropped 0 sendfailed 0 bytes 56",
+        NOTHING,
+    ),
+    (
+        FIRST,
+        true,
+        true,
+        "delivered 2 dropped 0 sendfailed 1 bytes 56",
+        NOTHING,
+    ),
+    (
+        FIRST_MOST,
+        true,
+        true,
+        "delivered 2 dropped 0 sendfailed 1 bytes 18446744073709551615",
+        NOTHING,
+    ),
+    (
+        FIRST_DROPS,
+        true,
+        true,
+        "delivered 1 dropped 1 sendfailed 0 bytes 28",
+        NOTHING,
+    ),
+    (
+        SECOND_DROPS,
+        false,
+        false,
+        "delivered 1 dropped 0 sendfailed 0 bytes 28",
+        "delivered 0 dropped 1 sendfailed 0 bytes 0",
+    ),
+];
+
+// A send that fails right after `clear` is not counted.
+fn clears(rt: &impl Abort, table: &mut MemberTable, log: &mut VerdictLog) {
+    count_all(rt, table, log, &[Given::Verdict(FIRST, false)]);
+    log.send_failed();
+    table.count(log);
+    assert!(rt; log.is_empty() && !log.is_full() && log.last().is_none());
+}
+
+// Counts the verdict, and returns whether the log counts it as one of the same member.
+fn count_one(
+    rt: &impl Abort,
+    table: &mut MemberTable,
+    log: &mut VerdictLog,
+    verdict: &Verdict,
+    failed: bool,
+) -> bool {
+    let again = log.judged_again(verdict);
+    if again && failed {
+        log.send_failed();
+    }
+    if again {
+        assert!(rt; log.is_full());
+        table.count(log);
+        log.clear();
+    } else {
+        count_all(rt, table, log, &[Given::Verdict(*verdict, failed)]);
+    }
+    again
+}
+
+fn counts_after_clear(rt: &impl Abort, alloc: Global, log: &mut VerdictLog) {
+    for (verdict, is_again, failed, first, second) in &CLEARED {
+        let mut table = MemberTable::new(alloc);
+        clears(rt, &mut table, log);
+        assert!(rt; count_one(rt, &mut table, log, verdict, *failed) == *is_again);
+        assert!(rt;
+            is_member(alloc, &table, GROUP, 1, first) && is_member(alloc, &table, GROUP, 2, second)
+        );
+    }
+}
+
+// A log without room counts only verdicts that name no member.
+fn counts_nothing(rt: &impl Abort, log: &mut VerdictLog) {
+    for _ in 0..2 {
+        assert!(rt; !log.judged_again(&FIRST) && !log.judged_again(&FIRST_DROPS));
+        assert!(rt; log.judged_again(&Verdict::NoGroup) && !log.delivered_again(&FIRST));
+        log.send_failed();
+        assert!(rt; log.is_empty() && log.is_full());
+        log.clear();
+    }
+}
+
+#[test]
+fn cleared_logs_count_as_new_ones(rt: HostRuntime) {
+    let mut log = VerdictLog::new(rt.alloc(), 1).expect(&rt, "a log");
+    counts_after_clear(&rt, rt.alloc(), &mut log);
+    let mut log = VerdictLog::new(rt.alloc(), 0).expect(&rt, "a log");
+    counts_nothing(&rt, &mut log);
+}
+
 // As many members of one group as are kept.
 fn fills(rt: &impl Abort, table: &mut MemberTable, log: &mut VerdictLog) {
     for member in 0..KEPT_LIMIT as u32 {

@@ -1,11 +1,15 @@
-use Rattle.std.proofs.Common.{◌∙◌, ap}
-use Rattle.member_counts.specs.body.Runs.{is_sent}
-use Rattle.member_counts.proofs.LogLemmas.{next-run}
+use Rattle.std.proofs.Common.{◌++◌, ◌∷◌, ◌∙◌, [], ap}
+use Rattle.member_counts.specs.Log.{Log, last_has}
+use Rattle.member_counts.proofs.LogLemmas.{never-so, next-run}
 use Rattle.member_counts.proofs.log.VerdictLog.add.Goals as goal
 
 pub returns : goal.returns
 returns c =
-    c.begin.ensures ∙ rw (← c.self.view_is)
-    (ap (λ entries. record { entries = entries; room = c.self.inside.room; sent = c.args.sent })
-    (next-run c.args.key c.args.counts c.self.inside.earlier.items c.self.inside.has_last c.self.inside.last
-    (is_sent c.self.inside.last.counts.delivered c.self.inside.ended) c.self.invariant.2 (λ there. cc)))
+    let key = c.args.key in
+    let counts = c.args.counts in
+    let old = c.args.self.now in
+    let other = never-so (last_has key old.entries) c.add_again.result c.add_again.ensures.again c.if-add_again.false in
+    c.begin.ensures
+    ∙ ap (λ (log : Log). record log { entries = log.entries ++ record { key = key; counts = counts } ∷ []; sent = c.args.sent })
+    (c.add_again.ensures.unchanged c.if-add_again.false)
+    ∙ ap (λ entries. record old { entries = entries; sent = c.args.sent }) (next-run key counts old.entries other)

@@ -1,19 +1,71 @@
-use Rattle.std.proofs.Common.{◌≡◌, ◌∙◌, ap, ap₂, sym, true}
+use Rattle.std.proofs.Common.{◌≡◌, ◌==◌, ◌&&◌, ◌+◌, ◌%◌, ◌^◌, ◌∙◌, ap, ap₂, arith, sym, true}
 use Rattle.member_counts.specs.declared.counts.Counts.{Counts}
-use Rattle.member_counts.specs.Counts.{delivered_one, plus}
-use Rattle.member_counts.specs.Key.{member_key}
-use Rattle.member_counts.specs.Log.{Log, last_has}
-use Rattle.member_counts.specs.body.Runs.{is_sent, runs}
-use Rattle.member_counts.proofs.LogLemmas.{run-again}
+use Rattle.member_counts.specs.declared.key.CountKey.{CountKey}
+use Rattle.member_counts.specs.Key.{member_key, same_key}
+use Rattle.member_counts.specs.Log.{Log, last_has, with_counts}
+use Rattle.member_counts.specs.body.Runs.{group_number, has_run, is_sent, packed_one, runs, whole}
+use Rattle.member_counts.proofs.KeyLemmas.{same_from_same_key}
+use Rattle.member_counts.proofs.LogLemmas.{delivered-log, has-key, not-wrapped, same_key-numbers, taken-back}
 use Rattle.member_counts.proofs.log.VerdictLog.delivered_again.Goals as goal
 
-pub returns-clause-counted : goal.returns-clause-counted
-returns-clause-counted c had =
+pub returns-then-not-has_numbers-clause-again : goal.returns-then-not-has_numbers-clause-again
+returns-then-not-has_numbers-clause-again c there =
+    let inside = c.self.inside in
     let key = member_key c.in-Deliver.group c.in-Deliver.member in
-    let has : last_has key (runs c.self.inside.earlier.items c.self.inside.has_last c.self.inside.last) ≡ true =
-    ap (λ (log : Log). last_has key log.entries) c.self.view_is ∙ (sym c.is_last.ensures ∙ c.if-not-is_last.false) in
-    let sent : is_sent (plus c.self.inside.last.counts (delivered_one c.in-Deliver.bytes)).delivered c.deliver.new.ended ≡ true =
-    ap (λ (counts : Counts). is_sent counts.delivered c.deliver.new.ended) (sym c.deliver.ensures.counted) ∙ c.deliver.ensures.sent in
-    rw (c.in-Deliver.is, ← c.self.view_is, c.deliver.ensures.counted)
-    (ap₂ (λ entries sent. record { entries = entries; room = c.self.inside.room; sent = sent })
-    (run-again key (delivered_one c.in-Deliver.bytes) c.self.inside.earlier.items c.self.inside.has_last c.self.inside.last (λ none. (c.self.invariant.2 none).0) has) sent)
+    let has : last_has key c.args.self.now.entries ≡ true = rw c.in-Deliver.is at there in
+    let same : c.has_numbers.result ≡ same_key inside.last.key key =
+    c.has_numbers.ensures.same ∙ ap₂ (λ member group. (member == c.in-Deliver.member) && (group == group_number c.in-Deliver.group)) c.self.invariant.5 c.self.invariant.6
+    ∙ same_key-numbers inside.last.key c.in-Deliver.group c.in-Deliver.member c.self.invariant.7 c.has_numbers.ensures.fits c.has_numbers.ensures.below in
+    let is : same_key inside.last.key key ≡ true =
+    has-key inside.earlier.items (has_run inside.has_counts inside.packed) (whole inside.last inside.packed) key (λ none. (c.self.invariant.2 none).0)
+    (ap (λ (log : Log). last_has key log.entries) c.self.view_is ∙ has) in
+    sym c.if-not-has_numbers.true ∙ (same ∙ is)
+
+pub returns-then-is_over-clause-again : goal.returns-then-is_over-clause-again
+returns-then-is_over-clause-again c there =
+    let inside = c.self.inside in
+    let key = member_key c.in-Deliver.group c.in-Deliver.member in
+    let has : last_has key c.args.self.now.entries ≡ true = rw c.in-Deliver.is at there in
+    let same : c.has_numbers.result ≡ same_key inside.last.key key =
+    c.has_numbers.ensures.same ∙ ap₂ (λ member group. (member == c.in-Deliver.member) && (group == group_number c.in-Deliver.group)) c.self.invariant.5 c.self.invariant.6
+    ∙ same_key-numbers inside.last.key c.in-Deliver.group c.in-Deliver.member c.self.invariant.7 c.has_numbers.ensures.fits c.has_numbers.ensures.below in
+    let own : inside.last.key ≡ key = same_from_same_key inside.last.key key (sym same ∙ c.if-not-has_numbers.false) in
+    let back : c.take_back.new.packed ≡ inside.packed = c.take_back.ensures ∙ taken-back inside.packed c.packed_one-one.result (omega (arith, c.self.ranges)) c.packed_one-one.ensures.fits in
+    c.add_again.ensures.again
+    (ap₂ (λ packed (key : CountKey). last_has key (runs inside.earlier.items (has_run inside.has_counts packed) (whole inside.last packed))) back own
+    ∙ ap (λ (log : Log). last_has key log.entries) c.self.view_is ∙ has)
+
+pub returns-then-is_over-clause-counted : goal.returns-then-is_over-clause-counted
+returns-then-is_over-clause-counted c added =
+    let inside = c.self.inside in
+    let key = member_key c.in-Deliver.group c.in-Deliver.member in
+    let same : c.has_numbers.result ≡ same_key inside.last.key key =
+    c.has_numbers.ensures.same ∙ ap₂ (λ member group. (member == c.in-Deliver.member) && (group == group_number c.in-Deliver.group)) c.self.invariant.5 c.self.invariant.6
+    ∙ same_key-numbers inside.last.key c.in-Deliver.group c.in-Deliver.member c.self.invariant.7 c.has_numbers.ensures.fits c.has_numbers.ensures.below in
+    let own : inside.last.key ≡ key = same_from_same_key inside.last.key key (sym same ∙ c.if-not-has_numbers.false) in
+    let back : c.take_back.new.packed ≡ inside.packed = c.take_back.ensures ∙ taken-back inside.packed c.packed_one-one.result (omega (arith, c.self.ranges)) c.packed_one-one.ensures.fits in
+    rw c.in-Deliver.is
+    (c.add_again.ensures.counted added
+    ∙ ap (λ packed. with_counts inside.last.key c.one_delivered.result true (record {
+      entries = runs inside.earlier.items (has_run inside.has_counts packed) (whole inside.last packed);
+      room = inside.room;
+      sent = is_sent packed inside.ended;
+    })) back
+    ∙ ap (λ (log : Log). with_counts inside.last.key c.one_delivered.result true log) c.self.view_is
+    ∙ ap₂ (λ (key : CountKey) (counts : Counts). with_counts key counts true c.args.self.now) own c.one_delivered.ensures.counts)
+
+pub returns-clause-counted : goal.returns-clause-counted
+returns-clause-counted c done =
+    let inside = c.self.inside in
+    let key = member_key c.in-Deliver.group c.in-Deliver.member in
+    let same : c.has_numbers.result ≡ same_key inside.last.key key =
+    c.has_numbers.ensures.same ∙ ap₂ (λ member group. (member == c.in-Deliver.member) && (group == group_number c.in-Deliver.group)) c.self.invariant.5 c.self.invariant.6
+    ∙ same_key-numbers inside.last.key c.in-Deliver.group c.in-Deliver.member c.self.invariant.7 c.has_numbers.ensures.fits c.has_numbers.ensures.below in
+    let own : inside.last.key ≡ key = same_from_same_key inside.last.key key (sym same ∙ c.if-not-has_numbers.false) in
+    let sum = not-wrapped inside.packed c.packed_one-one.result (omega (arith, c.self.ranges)) c.packed_one-one.ensures.fits c.if-is_over.false in
+    let packed : (inside.packed + c.packed_one-one.result) % 2 ^ 128 ≡ inside.packed + packed_one c.in-Deliver.bytes =
+    sum.0 ∙ ap (λ one. inside.packed + one) c.packed_one-one.ensures.packed in
+    rw (c.in-Deliver.is, ← c.self.view_is, packed)
+    (delivered-log inside.earlier.items inside.has_counts inside.last inside.packed inside.ended inside.room c.in-Deliver.bytes key
+    (λ none. ((c.self.invariant.2 none).0, (c.self.invariant.2 none).1)) c.self.invariant.3 c.self.invariant.9 c.self.invariant.8 own
+    (rw c.packed_one-one.ensures.packed at sum.1))

@@ -1,19 +1,22 @@
-use Rattle.std.proofs.Common.{◌≡◌, ◌∙◌, ap, false, sym}
+use Rattle.std.proofs.Common.{◌≡◌, ◌++◌, ◌∷◌, ◌∙◌, [], ap, ap₂, sym}
 use Rattle.member_counts.specs.declared.counts.Counts.{Counts}
-use Rattle.member_counts.specs.Counts.{failed_one, plus}
-use Rattle.member_counts.specs.body.Runs.{is_sent, runs}
-use Rattle.member_counts.proofs.LogLemmas.{failed-log, sent-other}
+use Rattle.member_counts.specs.declared.log.Run.{Run}
+use Rattle.member_counts.specs.Counts.{failed_one, no_counts, plus}
+use Rattle.member_counts.specs.body.Runs.{has_run, is_sent, whole}
+use Rattle.member_counts.proofs.LogLemmas.{failed-log, sent-none, sent-other, sum-none}
 use Rattle.member_counts.proofs.log.VerdictLog.send_failed.Goals as goal
 
 pub returns : goal.returns
 returns c =
-    let ended : is_sent (plus c.self.inside.last.counts failed_one).delivered c.ended_after-self-inside.result ≡ false =
-    ap (λ (counts : Counts). is_sent counts.delivered c.ended_after-self-inside.result)
-    (ap (λ (none : Counts). plus c.self.inside.last.counts (record none { send_failed = 1 })) (sym c.none.ensures) ∙ sym c.plus-self-inside.ensures)
-    ∙ c.ended_after-self-inside.ensures.sent in
-    let last = record c.self.inside.last { counts = plus c.self.inside.last.counts failed_one } in
-    rw (← c.self.view_is, c.plus-self-inside.ensures, c.none.ensures)
-    (ap (λ sent. record { entries = runs c.self.inside.earlier.items c.self.inside.has_last last; room = c.self.inside.room; sent = sent }) ended
-    ∙ failed-log c.self.inside.earlier.items c.self.inside.has_last c.self.inside.last c.self.inside.room
-    (is_sent c.self.inside.last.counts.delivered c.self.inside.ended)
-    (sent-other c.self.inside.last.counts.delivered c.self.inside.ended (λ same. c.if-self.false (sym same))) c.self.invariant.2)
+    let inside = c.self.inside in
+    let sum : plus c.plus-self-inside.result no_counts ≡ plus (whole inside.last inside.packed).counts failed_one =
+    ap (λ (counts : Counts). plus counts no_counts)
+    (c.plus-self-inside.ensures ∙ ap₂ (λ (run : Run) (none : Counts). plus run.counts (record none { send_failed = 1 })) c.whole.ensures c.none.ensures)
+    ∙ sum-none (whole inside.last inside.packed).counts failed_one in
+    rw (← c.self.view_is)
+    (ap (λ sent. record { entries = inside.earlier.items ++ record inside.last { counts = plus c.plus-self-inside.result no_counts } ∷ []; room = inside.room; sent = sent })
+    c.ended_after-self-inside.ensures.sent
+    ∙ failed-log inside.earlier.items (has_run inside.has_counts inside.packed) (whole inside.last inside.packed) inside.room
+    (is_sent inside.packed inside.ended) (plus c.plus-self-inside.result no_counts)
+    (sent-other inside.packed inside.ended (λ same. c.if-self.false (sym same)))
+    (λ none. sent-none inside.packed inside.ended _ (c.self.invariant.2 none).1 (c.self.invariant.2 none).2) sum)

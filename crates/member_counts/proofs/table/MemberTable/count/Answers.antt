@@ -15,21 +15,21 @@ pub returns-in-Some-clause-counts : goal.returns-in-Some-clause-counts
 returns-in-Some-clause-counts c =
     let there : Some c.in-Some.last ≡ last_run c.args.log.now.entries = rw c.in-Some.is at c.last.ensures in
     let counted = counted-last c.args.self.now c.loop-entry.self c.args.log.now.entries _ _ c.earlier-entry-items.ensures c.loop-entry-test.false c.loop-entry.invariant
-    c.add-in-Some.new.self c.in-Some.last there c.add-in-Some.ensures.adds c.add-in-Some.ensures.conserved in
+    c.add_last.new.self c.in-Some.last there c.add_last.ensures.adds c.add_last.ensures.conserved in
     counted.counts
 
 pub returns-in-Some-clause-kept_exact : goal.returns-in-Some-clause-kept_exact
 returns-in-Some-clause-kept_exact c =
     let there : Some c.in-Some.last ≡ last_run c.args.log.now.entries = rw c.in-Some.is at c.last.ensures in
     let counted = counted-last c.args.self.now c.loop-entry.self c.args.log.now.entries _ _ c.earlier-entry-items.ensures c.loop-entry-test.false c.loop-entry.invariant
-    c.add-in-Some.new.self c.in-Some.last there c.add-in-Some.ensures.adds c.add-in-Some.ensures.conserved in
-    kept_exact c.args.self.now c.args.log.now.entries c.add-in-Some.new.self counted.counts
+    c.add_last.new.self c.in-Some.last there c.add_last.ensures.adds c.add_last.ensures.conserved in
+    kept_exact c.args.self.now c.args.log.now.entries c.add_last.new.self counted.counts
 
 pub returns-in-Some-clause-conserved : goal.returns-in-Some-clause-conserved
 returns-in-Some-clause-conserved c =
     let there : Some c.in-Some.last ≡ last_run c.args.log.now.entries = rw c.in-Some.is at c.last.ensures in
     let counted = counted-last c.args.self.now c.loop-entry.self c.args.log.now.entries _ _ c.earlier-entry-items.ensures c.loop-entry-test.false c.loop-entry.invariant
-    c.add-in-Some.new.self c.in-Some.last there c.add-in-Some.ensures.adds c.add-in-Some.ensures.conserved in
+    c.add_last.new.self c.in-Some.last there c.add_last.ensures.adds c.add_last.ensures.conserved in
     counted.conserved
 
 pub returns-in_default-clause-counts : goal.returns-in_default-clause-counts
