@@ -46,6 +46,9 @@ static volatile uint64_t kept;
 static int repetitions;
 static char **chosen;
 static int choices;
+/* The contestant whose instructions are counted, if that is asked, and how many rounds it makes. */
+static const char *counted;
+static uint64_t counted_rounds;
 
 static double now(void) {
     struct timespec at;
@@ -71,6 +74,12 @@ static void measure(const char *work, const struct contestant *list, int count, 
     uint64_t rounds[CONTESTANTS];
     if (!is_chosen(work))
         return;
+    if (counted != NULL) {
+        for (int c = 0; c < count; c++)
+            if (strcmp(list[c].name, counted) == 0)
+                list[c].make(about, counted_rounds);
+        return;
+    }
     for (int c = 0; c < count; c++) {
         double begin = time_of(list[c].make, about, 0);
         rounds[c] = 1;
@@ -553,12 +562,17 @@ static void tables(void) {
 }
 
 int main(int argc, char **argv) {
-    if (argc < 2 || (repetitions = atoi(argv[1])) < 1) {
-        fprintf(stderr, "usage: driver REPETITIONS [WORK..]\n");
+    int words = 2;
+    if (argc == 5 && strcmp(argv[1], "--rounds") == 0) {
+        counted_rounds = strtoull(argv[2], NULL, 10);
+        counted = argv[3];
+        words = 4;
+    } else if (argc < 2 || (repetitions = atoi(argv[1])) < 1) {
+        fprintf(stderr, "usage: driver REPETITIONS [WORK..] | driver --rounds N CONTESTANT WORK\n");
         return 2;
     }
-    chosen = argv + 2;
-    choices = argc - 2;
+    chosen = argv + words;
+    choices = argc - words;
     programs();
     texts();
     tables();
