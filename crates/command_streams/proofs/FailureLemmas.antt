@@ -1,0 +1,43 @@
+-- Failures of devices, and their causes.
+use Rattle.std.proofs.Common.{◌≡◌, ◌==◌, ◌⊎◌, Bool, Err, List, None, Ok, Option, Result, false, if◌then◌else◌, inl, inr, refl, true, ℕ}
+use Rattle.std.specs.Prelude.{IfErr}
+use Rattle.dispatch.specs.Memory.{MOST_FAILURES}
+use Rattle.control.specs.Streams.{InputValue}
+use Rattle.command_line.specs.Input.{IsInput}
+use Rattle.command_line.specs.declared.ending.Failure.{Failure}
+use Rattle.command_line.specs.declared.ending.Failure.TheVariants.{BindFailed, NoAnswer, OutOfMemory, PollFailed, ReadFailed, RulesChanged, SpawnFailed, WriteFailed}
+use Rattle.command_streams.specs.Failures.{HasCause, InputFails, OutputFails, known_after}
+
+-- what is known of an input after a call is known of it before
+pub is_known_after : (input input' : InputValue) (bytes : List ℕ) → IsInput input.coming bytes → IsInput (known_after input input') bytes
+is_known_after input input' bytes is = forgotten (input'.failures == MOST_FAILURES) input.coming is
+  where
+    forgotten : (most : Bool) (known : Option (List ℕ)) → IsInput known bytes → IsInput (if most then None else known) bytes
+    forgotten true known is = tt
+    forgotten false known is = is
+
+-- only a write may have failed
+pub write_cause : {A : Type 0} (result : Result A Failure) (read read' written written' : ℕ) → IfErr result (λ failure. (failure ≡ WriteFailed) ⊎ (failure ≡ OutOfMemory)) → read' ≡ read
+    → OutputFails result written written' → HasCause result read read' written written'
+write_cause (Ok answer) read read' written written' failed kept output = (kept, output)
+write_cause (Err ReadFailed) read read' written written' failed kept output = elim failed [ inl e ↦ cc | inr e ↦ cc ]
+write_cause (Err WriteFailed) read read' written written' failed kept output = (kept, inl output)
+write_cause (Err OutOfMemory) read read' written written' failed kept output = (kept, inl output)
+write_cause (Err SpawnFailed) read read' written written' failed kept output = (kept, inl output)
+write_cause (Err BindFailed) read read' written written' failed kept output = (kept, inl output)
+write_cause (Err PollFailed) read read' written written' failed kept output = (kept, inl output)
+write_cause (Err NoAnswer) read read' written written' failed kept output = (kept, inl output)
+write_cause (Err RulesChanged) read read' written written' failed kept output = (kept, inl output)
+
+-- only a read may have failed
+pub read_cause : {A : Type 0} (result : Result A Failure) (read read' written : ℕ) → IfErr result (λ failure. (failure ≡ ReadFailed) ⊎ (failure ≡ OutOfMemory))
+    → InputFails result read read' → HasCause result read read' written written
+read_cause (Ok answer) read read' written failed input = (input, refl)
+read_cause (Err ReadFailed) read read' written failed input = (input, inl refl)
+read_cause (Err WriteFailed) read read' written failed input = elim failed [ inl e ↦ cc | inr e ↦ cc ]
+read_cause (Err OutOfMemory) read read' written failed input = (input, inl refl)
+read_cause (Err SpawnFailed) read read' written failed input = (input, inl refl)
+read_cause (Err BindFailed) read read' written failed input = (input, inl refl)
+read_cause (Err PollFailed) read read' written failed input = (input, inl refl)
+read_cause (Err NoAnswer) read read' written failed input = (input, inl refl)
+read_cause (Err RulesChanged) read read' written failed input = (input, inl refl)

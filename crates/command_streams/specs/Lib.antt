@@ -1,0 +1,6 @@
+pub mod Failures
+pub mod CountedWriter
+pub use Rattle.dispatch.specs.Device
+pub use Rattle.control.specs.Streams
+pub use Rattle.command_line.specs.Ending
+pub use Rattle.command_line.specs.Input
