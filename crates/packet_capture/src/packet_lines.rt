@@ -5,6 +5,7 @@ ghost use Rattle.std.specs.Io.KnownBytes.{Appends};
 ghost use Rattle.packet_capture.specs.Header.{IsFileHeader};
 ghost use Rattle.packet_capture.specs.Record.{HasNoRecord};
 ghost use Rattle.command_line.specs.Ending.{AppendsBeginning};
+ghost use Rattle.command_streams.specs.Failures.{OutputFails};
 ghost use Rattle.packet_capture.specs.Packets.{TellsCounts, WritesBeginning, WritesFirst, WritesText, counts_text, cut_text, header_fault_text, packet_line, packet_lines};
 ghost use Rattle.packet_capture.specs.body.Progress.{BeginsCapture, BeginsRecords, WritesRecords, WritesSome};
 
@@ -17,6 +18,7 @@ use crate::record::first_record;
 use crate::refusal::write_fault;
 use crate::{Summary, summarize};
 use command_line::{Failure, Status, write_whole};
+use command_streams::CountedWrite;
 use itoa::Buffer;
 use std::alloc::{AllocError, Global};
 use std::io::Write;
@@ -27,7 +29,7 @@ use std::io::Write;
 /// is given. If the file is cut in a record, the refusal comes after the packets before that record. If the header is
 /// refused, nothing else is written. After a failure a prefix of this was written; after `OutOfMemory`, the whole lines
 /// of zero or more first packets.
-pub fn print_packets<W: Write, E: Write>(
+pub fn print_packets<W: CountedWrite, E: Write>(
     alloc: Global,
     unwrap: Option<u16>,
     file: &[u8],
@@ -38,6 +40,7 @@ pub fn print_packets<W: Write, E: Write>(
     ensures counted { OnOk result (TellsCounts unwrap file.now (E.contents errs.old) (E.contents errs.new)) }
 
     ensures failed { IfErr result (λ failure. (failure ≡ Failure.WriteFailed) ⊎ (failure ≡ Failure.OutOfMemory)) }
+    ensures device_failed { OutputFails result (W.failures out.old) (W.failures out.new) }
     ensures no_memory { result ≡ Err Failure.OutOfMemory → WritesFirst unwrap file.now (W.contents out.old) (W.contents out.new) }
     ensures beginning { OnErr result (WritesBeginning unwrap file.now (W.contents out.old) (W.contents out.new)) }
     ensures untold { OnErr result (errs.new ≡ errs.old) }
@@ -60,8 +63,9 @@ fn counts_line(alloc: Global, summary: Summary) -> Result<String, AllocError>
     summary.to_string(alloc)
 }
 
-fn write_refusal<W: Write>(fault: HeaderFault, out: &mut W) -> Result<Status, Failure>
+fn write_refusal<W: CountedWrite>(fault: HeaderFault, out: &mut W) -> Result<Status, Failure>
     ensures failed { IfErr result (λ failure. failure ≡ Failure.WriteFailed) }
+    ensures device_failed { OutputFails result (W.failures out.old) (W.failures out.new) }
     ensures refused { IfOk result (λ status. status ≡ Status.Refused) }
     ensures written { OnOk result (Appends (W.contents out.old) (W.contents out.new) (header_fault_text fault ++ codes "\n")) }
     ensures beginning { OnErr result (AppendsBeginning (W.contents out.old) (W.contents out.new) (header_fault_text fault ++ codes "\n")) }
@@ -72,7 +76,7 @@ fn write_refusal<W: Write>(fault: HeaderFault, out: &mut W) -> Result<Status, Fa
 }
 
 // Writes the packets of a file with this header, and the place where it is cut.
-fn write_capture<W: Write>(
+fn write_capture<W: CountedWrite>(
     alloc: Global,
     unwrap: Option<u16>,
     header: FileHeader,
@@ -81,6 +85,7 @@ fn write_capture<W: Write>(
 ) -> Result<Status, Failure>
     requires { IsFileHeader file.now header }
     ensures failed { IfErr result (λ failure. (failure ≡ Failure.WriteFailed) ⊎ (failure ≡ Failure.OutOfMemory)) }
+    ensures device_failed { OutputFails result (W.failures out.old) (W.failures out.new) }
     ensures no_memory { result ≡ Err Failure.OutOfMemory → WritesSome unwrap header (drop 24 file.now) (W.contents out.old) (W.contents out.new) }
     ensures beginning { OnErr result (BeginsCapture unwrap header file.now (W.contents out.old) (W.contents out.new)) }
     ensures written { IfOk result (λ status. WritesText unwrap file.now status (W.contents out.old) (W.contents out.new)) }
@@ -92,7 +97,7 @@ fn write_capture<W: Write>(
 }
 
 // Writes the packets of the records, and returns the bytes after them.
-fn write_packets<'a, W: Write>(
+fn write_packets<'a, W: CountedWrite>(
     alloc: Global,
     unwrap: Option<u16>,
     header: FileHeader,
@@ -100,6 +105,7 @@ fn write_packets<'a, W: Write>(
     out: &mut W,
 ) -> Result<&'a [u8], Failure>
     ensures failed { IfErr result (λ failure. (failure ≡ Failure.WriteFailed) ⊎ (failure ≡ Failure.OutOfMemory)) }
+    ensures device_failed { OutputFails result (W.failures out.old) (W.failures out.new) }
     ensures no_memory { result ≡ Err Failure.OutOfMemory → WritesSome unwrap header records.entry.now (W.contents out.old) (W.contents out.new) }
     ensures beginning { OnErr result (BeginsRecords unwrap header records.entry.now (W.contents out.old) (W.contents out.new)) }
     ensures written { IfOk result (λ rest. WritesRecords unwrap header records.entry.now rest.now (W.contents out.old) (W.contents out.new)) }
@@ -118,13 +124,14 @@ fn write_packets<'a, W: Write>(
     Ok(rest)
 }
 
-fn write_content<W: Write>(
+fn write_content<W: CountedWrite>(
     alloc: Global,
     unwrap: Option<u16>,
     content: &Content<'_>,
     out: &mut W,
 ) -> Result<(), Failure>
     ensures failed { IfErr result (λ failure. (failure ≡ Failure.WriteFailed) ⊎ (failure ≡ Failure.OutOfMemory)) }
+    ensures device_failed { OutputFails result (W.failures out.old) (W.failures out.new) }
     ensures no_memory { result ≡ Err Failure.OutOfMemory → out.new ≡ out.old }
     ensures beginning { OnErr result (AppendsBeginning (W.contents out.old) (W.contents out.new) (packet_lines unwrap (content.now ∷ []))) }
     ensures written { OnOk result (Appends (W.contents out.old) (W.contents out.new) (packet_lines unwrap (content.now ∷ []))) }
@@ -138,8 +145,9 @@ fn write_content<W: Write>(
     }
 }
 
-fn write_packet<W: Write>(alloc: Global, packet: &[u8], out: &mut W) -> Result<(), Failure>
+fn write_packet<W: CountedWrite>(alloc: Global, packet: &[u8], out: &mut W) -> Result<(), Failure>
     ensures failed { IfErr result (λ failure. (failure ≡ Failure.WriteFailed) ⊎ (failure ≡ Failure.OutOfMemory)) }
+    ensures device_failed { OutputFails result (W.failures out.old) (W.failures out.new) }
     ensures no_memory { result ≡ Err Failure.OutOfMemory → out.new ≡ out.old }
     ensures beginning { OnErr result (AppendsBeginning (W.contents out.old) (W.contents out.new) (packet_line packet.now)) }
     ensures written { OnOk result (Appends (W.contents out.old) (W.contents out.new) (packet_line packet.now)) }
@@ -149,8 +157,9 @@ fn write_packet<W: Write>(alloc: Global, packet: &[u8], out: &mut W) -> Result<(
 }
 
 // If there are bytes after the last whole record, the file is cut at their place.
-fn write_cut<W: Write>(place: usize, rest: &[u8], out: &mut W) -> Result<Status, Failure>
+fn write_cut<W: CountedWrite>(place: usize, rest: &[u8], out: &mut W) -> Result<Status, Failure>
     ensures failed { IfErr result (λ failure. failure ≡ Failure.WriteFailed) }
+    ensures device_failed { OutputFails result (W.failures out.old) (W.failures out.new) }
     ensures status { IfOk result (λ status. (status ≡ Status.Done) ⊎ (status ≡ Status.Refused)) }
     ensures whole { result ≡ Ok Status.Done → (rest.now ≡ []) × (out.new ≡ out.old) }
     ensures cut { result ≡ Ok Status.Refused

@@ -14,17 +14,17 @@ use Rattle.packet_capture.proofs.packet_lines.write_capture.Goals as goal
 pub returns-in_err-rest-clause-no_memory : goal.returns-in_err-rest-clause-no_memory
 returns-in_err-rest-clause-no_memory g c = λ is.
     let first = c.in_err-rest.ensures.no_memory (error_is c.from_residual.result c.in_err-rest.field-0.0 OutOfMemory c.from_residual.ensures.1 is) in
-    (first.0, behind_header (λ bytes. WritesRecords c.args.unwrap c.args.header bytes first.0 (g.W.Write.contents c.args.out.now) (g.W.Write.contents c.write_packets.new.out)) c.args.file.now first.1)
+    (first.0, behind_header (λ bytes. WritesRecords c.args.unwrap c.args.header bytes first.0 (g.W.CountedWrite.contents c.args.out.now) (g.W.CountedWrite.contents c.write_packets.new.out)) c.args.file.now first.1)
 
 pub returns-in_err-rest-clause-beginning : goal.returns-in_err-rest-clause-beginning
 returns-in_err-rest-clause-beginning g c =
-    let before = g.W.Write.contents c.args.out.now in let after = g.W.Write.contents c.write_packets.new.out in
+    let before = g.W.CountedWrite.contents c.args.out.now in let after = g.W.CountedWrite.contents c.write_packets.new.out in
     on_err c.from_residual.result (BeginsCapture c.args.unwrap c.args.header c.args.file.now before after)
     (inl (behind_header (λ bytes. BeginsRecords c.args.unwrap c.args.header bytes before after) c.args.file.now c.in_err-rest.ensures.beginning))
 
 pub returns-in_err-status-clause-beginning : goal.returns-in_err-status-clause-beginning
 returns-in_err-status-clause-beginning g c =
-    let before = g.W.Write.contents c.args.out.now in let between = g.W.Write.contents c.write_packets.new.out in let after = g.W.Write.contents c.write_cut.new.out in
+    let before = g.W.CountedWrite.contents c.args.out.now in let between = g.W.CountedWrite.contents c.write_packets.new.out in let after = g.W.CountedWrite.contents c.write_cut.new.out in
     let rest = c.in_ok-rest.rest.now in let begun = c.in_err-status.ensures.beginning in
     on_err c.from_residual-in_err-status.result (BeginsCapture c.args.unwrap c.args.header c.args.file.now before after)
     (inr (cut_begun c.args.unwrap c.args.file.now c.args.header rest before between after c.requires
@@ -34,33 +34,33 @@ returns-in_err-status-clause-beginning g c =
 
 pub returns-in_err-map_err-clause-beginning : goal.returns-in_err-map_err-clause-beginning
 returns-in_err-map_err-clause-beginning g c =
-    let before = g.W.Write.contents c.args.out.now in let between = g.W.Write.contents c.write_packets.new.out in
-    let after = g.W.Write.contents c.write_cut.new.out in let last = g.W.Write.contents c.flush.new.self in
+    let before = g.W.CountedWrite.contents c.args.out.now in let between = g.W.CountedWrite.contents c.write_packets.new.out in
+    let after = g.W.CountedWrite.contents c.write_cut.new.out in let last = g.W.CountedWrite.contents c.flush.new.self in
     let told = c.in_ok-status.ensures in let rest = c.in_ok-rest.rest.now in
     let ok : Status → Result Status Failure = λ (s : Status). Ok s in
     on_err c.from_residual-in_err-map_err.result (BeginsCapture c.args.unwrap c.args.header c.args.file.now before last)
     (inr (whole_begun c.args.unwrap c.args.file.now c.in_ok-status.status before last
-    (text_written c.args.unwrap c.args.file.now c.args.header c.requires before between after last c.flush.ensures.bytes rest c.in_ok-status.status
+    (text_written c.args.unwrap c.args.file.now c.args.header c.requires before between after last c.flush.ensures.contents_kept rest c.in_ok-status.status
     (behind_header (λ bytes. WritesRecords c.args.unwrap c.args.header bytes rest before between) c.args.file.now c.in_ok-rest.ensures.written)
     c.in_ok-rest.ensures.no_more told.status
-    (λ is. let whole = told.whole (ap ok is) in (whole.0, ap g.W.Write.contents (sym whole.1)))
+    (λ is. let whole = told.whole (ap ok is) in (whole.0, ap g.W.CountedWrite.contents (sym whole.1)))
     (λ is. told.cut (ap ok is)))))
 
 pub overflow_sub-file : goal.overflow_sub-file
 overflow_sub-file g c =
-    let written = behind_header (λ bytes. WritesRecords c.args.unwrap c.args.header bytes c.in_ok-rest.rest.now (g.W.Write.contents c.args.out.now) (g.W.Write.contents c.write_packets.new.out)) c.args.file.now c.in_ok-rest.ensures.written in
+    let written = behind_header (λ bytes. WritesRecords c.args.unwrap c.args.header bytes c.in_ok-rest.rest.now (g.W.CountedWrite.contents c.args.out.now) (g.W.CountedWrite.contents c.write_packets.new.out)) c.args.file.now c.in_ok-rest.ensures.written in
     omega (arith, AreRecords-shorter c.args.header (drop 24 c.args.file.now) c.in_ok-rest.rest.now written.contents written.are_records, length-drop 24 c.args.file.now)
 
 pub returns-clause-written : goal.returns-clause-written
 returns-clause-written g c =
     let told = c.in_ok-status.ensures in
     let ok : Status → Result Status Failure = λ (s : Status). Ok s in
-    text_written c.args.unwrap c.args.file.now c.args.header c.requires (g.W.Write.contents c.args.out.now) (g.W.Write.contents c.write_packets.new.out) (g.W.Write.contents c.write_cut.new.out) (g.W.Write.contents c.flush.new.self) c.flush.ensures.bytes
+    text_written c.args.unwrap c.args.file.now c.args.header c.requires (g.W.CountedWrite.contents c.args.out.now) (g.W.CountedWrite.contents c.write_packets.new.out) (g.W.CountedWrite.contents c.write_cut.new.out) (g.W.CountedWrite.contents c.flush.new.self) c.flush.ensures.contents_kept
     c.in_ok-rest.rest.now c.in_ok-status.status
-    (behind_header (λ bytes. WritesRecords c.args.unwrap c.args.header bytes c.in_ok-rest.rest.now (g.W.Write.contents c.args.out.now) (g.W.Write.contents c.write_packets.new.out)) c.args.file.now c.in_ok-rest.ensures.written)
+    (behind_header (λ bytes. WritesRecords c.args.unwrap c.args.header bytes c.in_ok-rest.rest.now (g.W.CountedWrite.contents c.args.out.now) (g.W.CountedWrite.contents c.write_packets.new.out)) c.args.file.now c.in_ok-rest.ensures.written)
     c.in_ok-rest.ensures.no_more
     told.status
-    (λ is. let whole = told.whole (ap ok is) in (whole.0, ap g.W.Write.contents (sym whole.1)))
+    (λ is. let whole = told.whole (ap ok is) in (whole.0, ap g.W.CountedWrite.contents (sym whole.1)))
     (λ is. told.cut (ap ok is))
 
 pub returns-clause-failed : goal.returns-clause-failed

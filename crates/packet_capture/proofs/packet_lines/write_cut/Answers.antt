@@ -5,7 +5,7 @@ use Rattle.packet_capture.proofs.packet_lines.write_cut.Goals as goal
 
 pub returns-clause-cut : goal.returns-clause-cut
 returns-clause-cut g c =
-    let start = g.W.Write.contents c.args.out.now in let end = g.W.Write.contents c.write_line.new.out in
+    let start = g.W.CountedWrite.contents c.args.out.now in let end = g.W.CountedWrite.contents c.write_line.new.out in
     let front : c.as_slice.result.now ≡ codes "refused L5 " = search rules in
     let number : c.as_bytes.result.now ≡ decimal c.args.place = search rules in
     λ is. (
