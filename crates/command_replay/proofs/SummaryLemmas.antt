@@ -16,6 +16,7 @@ use Rattle.command_replay.specs.body.Failing.{failure_of_replay}
 use Rattle.command_replay.specs.body.Summarizing.{BeginsSummary, WritesSummary}
 use Rattle.command_replay.specs.Replaying.{AreRepliesTo, ReplayWritesBefore, RepliesBefore, WritesAllReplies, WritesBeginningFor, WritesScript}
 use Rattle.command_replay.proofs.RepliesLemmas.{failed_flush_told, fault_told}
+use Rattle.command_streams.specs.Failures.{known_after}
 
 -- ---- the counts have the text that was written
 
@@ -51,8 +52,8 @@ failed_alike (Err fault.ReadFailed) input input' failures failures' taken taken'
 failed_alike (Err fault.WriteFailed) input input' failures failures' taken taken' before now failed = failed
 failed_alike (Err fault.OutOfMemory) input input' failures failures' taken taken' before now failed = failed
 
-module _ (input input' : InputValue) (output output' : OutputValue) (known before now after : Option (List ℕ)) (left : ℕ) (counts : List ℕ)
-    (opened : input ≡ record { failures = 0; coming = known; left = left }) (opened' : output ≡ record { failures = 0; taken = Some [] })
+module _ (input input' : InputValue) (output output' : OutputValue) (before now after : Option (List ℕ)) (counts : List ℕ)
+    (opened : output ≡ record { failures = 0; taken = Some [] })
     (counted : output'.failures < MOST_FAILURES → output'.taken ≡ Some counts) (appended : output'.failures < MOST_FAILURES → Appends before now counts) (kept : Keeps now after) where
   -- the writer, as an output
   abbrev from : OutputValue
@@ -62,14 +63,14 @@ module _ (input input' : InputValue) (output output' : OutputValue) (known befor
   to = record { failures = output'.failures; taken = now }
 
   none : output.failures ≡ 0
-  none = ap (λ (o : OutputValue). o.failures) opened'
+  none = ap (λ (o : OutputValue). o.failures) opened
 
   starts : output.taken ≡ Some []
-  starts = ap (λ (o : OutputValue). o.taken) opened'
+  starts = ap (λ (o : OutputValue). o.taken) opened
 
   failed_here : (result : Result (Unit {0}) ReplayFault) → FailedBy result input input' output output' → FailedBy result input input' from to
   failed_here result failed =
-      failed_alike result input input' 0 output'.failures (Some []) output'.taken before now (subst (λ (o : OutputValue). FailedBy result input input' o output') opened' failed)
+      failed_alike result input input' 0 output'.failures (Some []) output'.taken before now (subst (λ (o : OutputValue). FailedBy result input input' o output') opened failed)
 
   module _ (few : output'.failures < MOST_FAILURES) where
     written_here : (text : List ℕ) → Appends output.taken output'.taken text → Appends before now text
@@ -129,17 +130,17 @@ module _ (input input' : InputValue) (output output' : OutputValue) (known befor
       → (result ≡ Err fault.WriteFailed → WroteBeginning input input' output output')
       → (result ≡ Err fault.OutOfMemory → AnsweredFirstLines input input' output output')
       → FailedBy result input input' output output'
-      → RepliesBefore (failure_of_replay why) known before after
+      → RepliesBefore (failure_of_replay why) (known_after input input') before after
   counted_fault_told result why is at_read at_write at_memory failed =
       let few = few_failures result input input' output output' none failed in
-      fault_told input input' from to known before now after left opened refl (λ less. refl) kept result why is
+      fault_told input input' from to before now after refl (λ less. refl) kept result why is
       (λ e. all_lines few (at_read e)) (λ e. beginning_here few (at_write e)) (λ e. first_lines few (at_memory e)) (failed_here result failed)
 
   -- the output failed behind all the replies
-  pub counted_flush_told : (input'.failures ≡ input.failures) → output'.failures ≡ output.failures → IsReplayed input input' output output' → RepliesBefore WriteFailed known before after
+  pub counted_flush_told : (input'.failures ≡ input.failures) → output'.failures ≡ output.failures → IsReplayed input input' output output' → RepliesBefore WriteFailed (known_after input input') before after
   counted_flush_told reads same all =
       let few = few_failures (Ok tt) input input' output output' none (reads, same) in
-      failed_flush_told input input' from to known before now after left opened refl (λ less. refl) kept (same ∙ none) (replayed few all)
+      failed_flush_told input input' from to before now after refl (λ less. refl) kept (same ∙ none) (replayed few all)
 
 -- ---- the summary behind the replies
 

@@ -1,34 +1,24 @@
-//! A writer whose replies are counted.
+//! A destination whose replies are counted.
 
-ghost use Rattle.std.specs.Prelude.{◌≡◌, ◌<◌, List, None, Option, Some, [], ℕ};
+ghost use Rattle.std.specs.Prelude.{◌≡◌, ◌<◌, Some, []};
 ghost use Rattle.std.specs.Io.KnownBytes.{Appends};
 ghost use Rattle.dispatch.specs.Memory.{MOST_FAILURES};
+ghost use Rattle.command_replay.specs.body.Opened.{failures_after};
 
-use control::{Failed, Output, ToWrite};
+use crate::reply_output::{Opened, ReplyOutput};
+use command_streams::CountedWrite;
+use control::{Failed, Output};
 use control_summary::ReplyCounts;
 use std::alloc::Global;
-use std::io::Write;
-use std::marker::{Brand, Model, PhantomData};
+use std::marker::Model;
 
-/// The contents of a writer when a `CountedOutput` was made over it. The type has them, since code that writes says only what it
-/// writes.
-/// The reason: docs/INTERNALS.md, "Texts and types that only contracts see".
-pub(crate) trait Opened {
-    ghost opened: { Option (List ℕ) };
-}
-
-impl Opened for Brand {
-    ghost opened = { None };
-}
-
-/// A writer, and the counts of the replies that were written to it. Fails if the writer does.
-pub(crate) struct CountedOutput<'a, W: Write, L: Opened> {
-    output: ToWrite<'a, W>,
+/// A destination, and the counts of the replies that were written to it. Fails if the destination does.
+pub(crate) struct CountedOutput<'a, W: CountedWrite, L: Opened> {
+    output: ReplyOutput<'a, W, L>,
     counts: ReplyCounts,
-    opened: PhantomData<L>,
 }
 
-impl<'a, W: Write, L: Opened> Model for CountedOutput<'a, W, L> {
+impl<'a, W: CountedWrite, L: Opened> Model for CountedOutput<'a, W, L> {
     ghost use Rattle.std.specs.Prelude.{◌<◌, Some};
     ghost use Rattle.std.specs.Io.KnownBytes.{Appends};
     ghost use Rattle.dispatch.specs.Memory.{MOST_FAILURES};
@@ -42,40 +32,37 @@ impl<'a, W: Write, L: Opened> Model for CountedOutput<'a, W, L> {
     } };
 
     ghost invariant = { λ counted. counted.output.output.failures < MOST_FAILURES
-        → Appends L.opened counted.output.output.taken counted.counts };
+        → Appends L.contents counted.output.output.taken counted.counts };
 }
 
-impl<'a, W: Write, L: Opened> CountedOutput<'a, W, L> {
-    pub(crate) fn new(alloc: Global, writer: &'a mut W) -> CountedOutput<'a, W, L>
-        requires { L.opened ≡ W.contents writer.old }
+impl<'a, W: CountedWrite, L: Opened> CountedOutput<'a, W, L> {
+    pub(crate) fn new(alloc: Global, out: &'a mut W) -> CountedOutput<'a, W, L>
+        requires contents { L.contents ≡ W.contents out.old }
+        requires failures { L.failures ≡ W.failures out.old }
         ensures opened { result ≡ record {
-          borrow = writer.entry.ghost_name;
+          borrow = out.entry.ghost_name;
           output = record { failures = 0; taken = Some [] };
         } }
     {
         CountedOutput {
-            output: ToWrite::new(writer),
+            output: ReplyOutput::new(out),
             counts: ReplyCounts::new(alloc),
-            opened: PhantomData,
         }
     }
 
-    /// Returns the writer and the counts.
+    /// Returns the destination and the counts.
     pub(crate) fn into_parts(self) -> (&'a mut W, ReplyCounts)
         ensures same_reference { result.0.ghost_name ≡ self.entry.borrow }
         ensures counts { self.entry.output.failures < MOST_FAILURES → self.entry.output.taken ≡ Some result.1 }
-        ensures contents { self.entry.output.failures < MOST_FAILURES → Appends L.opened (W.contents result.0.now) result.1 }
+        ensures contents { self.entry.output.failures < MOST_FAILURES → Appends L.contents (W.contents result.0.now) result.1 }
+        ensures failures { W.failures result.0.now ≡ failures_after self.entry.output.failures L.failures }
     {
-        let CountedOutput {
-            output,
-            counts,
-            opened: _,
-        } = self;
+        let CountedOutput { output, counts } = self;
         (output.into_inner(), counts)
     }
 }
 
-impl<W: Write, L: Opened> Output for CountedOutput<'_, W, L> {
+impl<W: CountedWrite, L: Opened> Output for CountedOutput<'_, W, L> {
     ghost use Rattle.std.specs.Borrow.{GName};
 
     ghost Rest = { GName };

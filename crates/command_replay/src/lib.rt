@@ -8,6 +8,7 @@ ghost use Rattle.command_replay.specs.Lines.{LinesAreReplies};
 
 mod counted_output;
 mod replaying;
+mod reply_output;
 mod summarizing;
 mod unwritten;
 

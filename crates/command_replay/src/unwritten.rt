@@ -1,15 +1,15 @@
 //! Replaying a script whose replies are not written.
 
 ghost use Rattle.std.specs.Prelude.{◌≡◌, ◌⊎◌, IfErr, IfOk, OnOk};
+ghost use Rattle.command_streams.specs.Failures.{InputFails};
 ghost use Rattle.command_replay.specs.Replaying.{AreRepliesTo};
 ghost use Rattle.command_replay.specs.body.Summarizing.{WasReplayed};
 
 use crate::replaying::failure_of;
 use command_line::{Failure, Status};
-use control::{Failed, FromRead, Output, replay};
+use control::{Failed, Input, Output, replay};
 use control_summary::ReplyCounts;
 use std::alloc::Global;
-use std::io::Read;
 
 // Takes all and keeps nothing.
 #[derive(Drop)]
@@ -47,26 +47,28 @@ impl Output for CountsAlone {
 }
 
 /// Replays each request of the input, and writes nothing.
-pub fn replay_unwritten<R: Read + Drop>(alloc: Global, input: R) -> Result<Status, Failure>
+pub fn replay_unwritten<R: Input>(alloc: Global, input: &mut R) -> Result<Status, Failure>
     ensures failed { IfErr result (λ failure. (failure ≡ Failure.ReadFailed) ⊎ (failure ≡ Failure.OutOfMemory)) }
+    ensures device_failed { InputFails result (R.state input.old).failures (R.state input.new).failures }
     ensures done { IfOk result (λ status. status ≡ Status.Done) }
-    ensures replied { OnOk result (WasReplayed (R.remaining input)) }
+    ensures replied { OnOk result (WasReplayed (R.state input.old).coming) }
 {
-    match replay(alloc, &mut FromRead::new(input), &mut Nowhere) {
+    match replay(alloc, input, &mut Nowhere) {
         Ok(()) => Ok(Status::Done),
         Err(fault) => Err(failure_of(fault)),
     }
 }
 
 /// Replays each request of the input, and counts the replies.
-pub fn count_replies<R: Read + Drop>(alloc: Global, input: R) -> Result<ReplyCounts, Failure>
+pub fn count_replies<R: Input>(alloc: Global, input: &mut R) -> Result<ReplyCounts, Failure>
     ensures failed { IfErr result (λ failure. (failure ≡ Failure.ReadFailed) ⊎ (failure ≡ Failure.OutOfMemory)) }
-    ensures replied { IfOk result (AreRepliesTo (R.remaining input)) }
+    ensures device_failed { InputFails result (R.state input.old).failures (R.state input.new).failures }
+    ensures replied { IfOk result (AreRepliesTo (R.state input.old).coming) }
 {
     let mut output = CountsAlone {
         counts: ReplyCounts::new(alloc),
     };
-    match replay(alloc, &mut FromRead::new(input), &mut output) {
+    match replay(alloc, input, &mut output) {
         Ok(()) => Ok(output.counts),
         Err(fault) => Err(failure_of(fault)),
     }

@@ -10,15 +10,15 @@ returns-in-Err-clause-failed_written g c =
     let told = c.in-Err.ensures in
     let why = c.in-Err.fault in
     rw (c.failure_of.ensures)
-    (fault_told _ _ _ _ _ _ (g.W.Write.contents c.into_inner.result.now) _ _ c.new.ensures.opened (ap (λ v. v.output) c.new-output.ensures.opened) c.into_inner.ensures.contents (search rules)
+    (fault_told _ _ _ _ _ (g.W.CountedWrite.contents c.into_inner.result.now) _ (ap (λ v. v.output) c.new-output.ensures.opened) c.into_inner.ensures.contents (search rules)
     (Err why) why refl told.text_before_failed_read told.text_before_failed_write told.text_before_no_memory told.device_failed)
 
 pub returns-in_err-map_err-in-Ok-clause-failed_written :
     goal.returns-in_err-map_err-in-Ok-clause-failed_written
 returns-in_err-map_err-in-Ok-clause-failed_written g c =
     let told = c.in-Ok.ensures in
-    stopped_as c.from_residual.result (λ failure. RepliesBefore failure (g.R.Read.remaining c.args.input) (g.W.Write.contents c.args.out.now) _) WriteFailed (search rules)
-    (failed_flush_told _ _ _ _ _ _ (g.W.Write.contents c.into_inner.result.now) _ _ c.new.ensures.opened (ap (λ v. v.output) c.new-output.ensures.opened) c.into_inner.ensures.contents (search rules)
+    stopped_as c.from_residual.result (λ failure. RepliesBefore failure _ (g.W.CountedWrite.contents c.args.out.now) _) WriteFailed (search rules)
+    (failed_flush_told _ _ _ _ _ (g.W.CountedWrite.contents c.into_inner.result.now) _ (ap (λ v. v.output) c.new-output.ensures.opened) c.into_inner.ensures.contents (search rules)
     told.device_failed.1 told.script_text)
 
 pub returns-in-Err-clause-failed : goal.returns-in-Err-clause-failed

@@ -11,8 +11,8 @@ returns-in-Err-clause-failed_written g c =
     let parts = c.into_parts-written.ensures in
     let why = c.in-Err.fault in
     rw (c.failure_of.ensures)
-    (counted_fault_told _ _ _ _ _ (g.W.Write.contents c.args.out.now) (g.W.Write.contents c.into_parts-written.result.0.now) _ _ c.into_parts-written.result.1
-    c.new.ensures.opened (ap (λ v. v.output) c.new-output.ensures.opened) parts.counts (rw (sym c.requires) parts.contents) (search rules)
+    (counted_fault_told _ _ _ _ (g.W.CountedWrite.contents c.args.out.now) (g.W.CountedWrite.contents c.into_parts-written.result.0.now) _ c.into_parts-written.result.1
+    (ap (λ v. v.output) c.new-output.ensures.opened) parts.counts (rw (sym c.requires.contents) parts.contents) (search rules)
     (Err why) why refl told.text_before_failed_read told.text_before_failed_write told.text_before_no_memory told.device_failed)
 
 pub returns-in_err-map_err-in-Ok-clause-failed_written :
@@ -20,9 +20,9 @@ pub returns-in_err-map_err-in-Ok-clause-failed_written :
 returns-in_err-map_err-in-Ok-clause-failed_written g c =
     let told = c.in-Ok.ensures in
     let parts = c.into_parts-written.ensures in
-    stopped_as c.from_residual.result (λ failure. RepliesBefore failure (g.R.Read.remaining c.args.input) (g.W.Write.contents c.args.out.now) _) WriteFailed (search rules)
-    (counted_flush_told _ _ _ _ _ (g.W.Write.contents c.args.out.now) (g.W.Write.contents c.into_parts-written.result.0.now) _ _ c.into_parts-written.result.1
-    c.new.ensures.opened (ap (λ v. v.output) c.new-output.ensures.opened) parts.counts (rw (sym c.requires) parts.contents) (search rules)
+    stopped_as c.from_residual.result (λ failure. RepliesBefore failure _ (g.W.CountedWrite.contents c.args.out.now) _) WriteFailed (search rules)
+    (counted_flush_told _ _ _ _ (g.W.CountedWrite.contents c.args.out.now) (g.W.CountedWrite.contents c.into_parts-written.result.0.now) _ c.into_parts-written.result.1
+    (ap (λ v. v.output) c.new-output.ensures.opened) parts.counts (rw (sym c.requires.contents) parts.contents) (search rules)
     told.device_failed.0 told.device_failed.1 told.script_text)
 
 pub returns-in-Err-clause-failed : goal.returns-in-Err-clause-failed
