@@ -9,6 +9,7 @@ use Rattle.control_line.specs.declared.reason.Reason.{Reason}
 use Rattle.control_line.specs.declared.reason.Reason.TheVariants.{BadForm}
 use Rattle.command_query.specs.declared.command_result.CommandResult.{CommandResult}
 use Rattle.command_query.specs.declared.command_result.CommandResult.TheVariants.{Versions}
+use Rattle.command_line.specs.Ending.{AppendsBeginning}
 use Rattle.command_line.specs.declared.ending.Failure.{Failure}
 use Rattle.command_line.specs.declared.ending.Failure.TheVariants.{BindFailed, NoAnswer, OutOfMemory, PollFailed, ReadFailed, RulesChanged, SpawnFailed, WriteFailed}
 use Rattle.command_line.specs.declared.ending.Status.{Status}
@@ -144,7 +145,11 @@ MayFail request PollFailed = ⊥
 MayFail request NoAnswer = ⊥
 MayFail request RulesChanged = ⊥
 
--- the output of a command with one result before each failure: nothing, but for a failed write nothing is promised
-abbrev pub QueryWritesBefore : Failure → Option (List ℕ) → Option (List ℕ) → Type 0
-QueryWritesBefore WriteFailed before after = Unit {0}
-QueryWritesBefore failure before after = after ≡ before
+-- a beginning of the command's text was appended to the output, and nothing else
+abbrev pub BeginsAnswer : Request → Option (List ℕ) → Option (List ℕ) → Option (List ℕ) → Type 0
+BeginsAnswer request known before after = (status : Status) × (text : List ℕ) × IsAnswerText request known status text × AppendsBeginning before after text
+
+-- the output of a command with one result before each failure: nothing, or a beginning of its text if a write failed
+abbrev pub QueryWritesBefore : Request → Failure → Option (List ℕ) → Option (List ℕ) → Option (List ℕ) → Type 0
+QueryWritesBefore request WriteFailed known before after = BeginsAnswer request known before after
+QueryWritesBefore request failure known before after = after ≡ before

@@ -1,6 +1,6 @@
 //! The commands that have one result: what they find, and what they write.
 
-ghost use Rattle.std.specs.Prelude.{◌≡◌, ◌++◌, IfErr, IfOk, IsSomeAnd, MatchOption, OnOk, codes};
+ghost use Rattle.std.specs.Prelude.{◌≡◌, ◌⊎◌, ◌++◌, Err, IfErr, IfOk, IsSomeAnd, MatchOption, OnOk, codes};
 ghost use Rattle.std.specs.Io.KnownBytes.{Appends};
 ghost use Rattle.control_line.specs.Packet.{IsRefusalOfHex, SpellsPacket};
 ghost use Rattle.fault_code.specs.Code.{code_text};
@@ -10,7 +10,9 @@ ghost use Rattle.command_query.specs.CommandResult.{IsCompileAnswer, answer_text
 ghost use Rattle.command_line.specs.CommandLine.{check, query_request, run};
 ghost use Rattle.command_query.specs.Format.{output_format_of};
 ghost use Rattle.command_query.specs.Query.{IsResultOf, IsStopOf, MayFail, QueryWritesBefore, WritesAnswer};
-ghost use Rattle.command_query.specs.body.Stop.{IsStopBy};
+ghost use Rattle.command_query.specs.body.Stop.{IsStopBy, StopsByInput};
+ghost use Rattle.command_line.specs.Ending.{AppendsBeginning};
+ghost use Rattle.command_streams.specs.Failures.{HasCause, OutputFails};
 
 use crate::command_result::CommandResult;
 use crate::explaining::explain;
@@ -21,40 +23,42 @@ use crate::packing::pack;
 use crate::program_commands::{check, run_program};
 use crate::spreading::spread_selector;
 use crate::stop::Stop;
-use command_line::{Failure, Query, Status, read_whole};
+use command_line::{Failure, Query, Status};
+use command_streams::{CountedWrite, Input, read_all, write_through};
 use control_line::{Reason, packet_of_hex};
 use fault_code::Code;
 use std::alloc::Global;
-use std::io::{Read, Write};
 
 /// Writes the result of a command, or why it has none, and returns the status that the command ends with.
-pub fn run_query<R: Read + Drop, W: Write>(
+pub fn run_query<R: Input, W: CountedWrite>(
     alloc: Global,
     query: Query<'_>,
-    input: R,
+    input: &mut R,
     out: &mut W,
 ) -> Result<Status, Failure>
     ensures failed { IfErr result (MayFail (query_request query.entry)) }
+    ensures device_failed { HasCause result (R.state input.old).failures (R.state input.new).failures (W.failures out.old) (W.failures out.new) }
     ensures failed_written { IfErr result (λ failure.
-        QueryWritesBefore failure (W.contents out.old) (W.contents out.new)) }
+        QueryWritesBefore (query_request query.entry) failure (R.state input.old).coming (W.contents out.old) (W.contents out.new)) }
     ensures answered { IfOk result (λ status.
-        WritesAnswer (query_request query.entry) (R.remaining input) status (W.contents out.old) (W.contents out.new)) }
+        WritesAnswer (query_request query.entry) (R.state input.old).coming status (W.contents out.old) (W.contents out.new)) }
 {
     match find_answer(alloc, query, input) {
-        Ok(found) => write_answer(&found, out),
-        Err(Stop::Refused(reason)) => write_refusal(reason.code(), out),
-        Err(Stop::Misformed(fault)) => write_refusal(fault.code(), out),
+        Ok(found) => write_answer(alloc, &found, out),
+        Err(Stop::Refused(reason)) => write_refusal(alloc, reason.code(), out),
+        Err(Stop::Misformed(fault)) => write_refusal(alloc, fault.code(), out),
         Err(Stop::Failed(failure)) => Err(failure),
     }
 }
 
-fn find_answer<R: Read + Drop>(
+fn find_answer<R: Input>(
     alloc: Global,
     query: Query<'_>,
-    input: R,
+    input: &mut R,
 ) -> Result<CommandResult, Stop>
-    ensures found { IfOk result (IsResultOf (query_request query.entry) (R.remaining input)) }
-    ensures stopped { IfErr result (IsStopOf (query_request query.entry) (R.remaining input)) }
+    ensures found { IfOk result (IsResultOf (query_request query.entry) (R.state input.old).coming) }
+    ensures stopped { IfErr result (IsStopOf (query_request query.entry) (R.state input.old).coming) }
+    ensures device_failed { StopsByInput result (R.state input.old).failures (R.state input.new).failures }
 {
     match query {
         Query::First => {
@@ -79,14 +83,15 @@ fn find_answer<R: Read + Drop>(
     }
 }
 
-fn check_input<R: Read + Drop>(alloc: Global, name: &str, input: R) -> Result<CommandResult, Stop>
-    ensures found { IfOk result (IsResultOf (check name.now) (R.remaining input)) }
-    ensures stopped { IfErr result (IsStopOf (check name.now) (R.remaining input)) }
+fn check_input<R: Input>(alloc: Global, name: &str, input: &mut R) -> Result<CommandResult, Stop>
+    ensures found { IfOk result (IsResultOf (check name.now) (R.state input.old).coming) }
+    ensures stopped { IfErr result (IsStopOf (check name.now) (R.state input.old).coming) }
+    ensures device_failed { StopsByInput result (R.state input.old).failures (R.state input.new).failures }
 {
     let Some(format) = input_format_of(name) else {
         return Err(Stop::Refused(Reason::BadForm));
     };
-    check(alloc, format, &read_whole(alloc, input)?)
+    check(alloc, format, &read_all(alloc, input)?)
 }
 
 fn compile_to(alloc: Global, expression: &str, name: &str) -> Result<CommandResult, Stop>
@@ -100,20 +105,21 @@ fn compile_to(alloc: Global, expression: &str, name: &str) -> Result<CommandResu
     compile(alloc, format, expression.as_bytes())
 }
 
-fn run_input<R: Read + Drop>(
+fn run_input<R: Input>(
     alloc: Global,
     digits: &str,
     name: &str,
-    input: R,
+    input: &mut R,
 ) -> Result<CommandResult, Stop>
-    ensures found { IfOk result (IsResultOf (run digits.now name.now) (R.remaining input)) }
-    ensures stopped { IfErr result (IsStopOf (run digits.now name.now) (R.remaining input)) }
+    ensures found { IfOk result (IsResultOf (run digits.now name.now) (R.state input.old).coming) }
+    ensures stopped { IfErr result (IsStopOf (run digits.now name.now) (R.state input.old).coming) }
+    ensures device_failed { StopsByInput result (R.state input.old).failures (R.state input.new).failures }
 {
     let packet = read_packet(alloc, digits)?;
     let Some(format) = input_format_of(name) else {
         return Err(Stop::Refused(Reason::BadForm));
     };
-    run_program(alloc, &packet, format, &read_whole(alloc, input)?)
+    run_program(alloc, &packet, format, &read_all(alloc, input)?)
 }
 
 // Reads the packet that the digits spell. The digits are tested before anything is read.
@@ -124,22 +130,32 @@ pub(crate) fn read_packet(alloc: Global, digits: &str) -> Result<Vec<u8>, Stop>
     packet_of_hex(alloc, digits.as_bytes())?.map_err(Stop::Refused)
 }
 
-fn write_answer<W: Write>(found: &CommandResult, out: &mut W) -> Result<Status, Failure>
-    ensures failed { IfErr result (λ failure. failure ≡ Failure.WriteFailed) }
+fn write_answer<W: CountedWrite>(
+    alloc: Global,
+    found: &CommandResult,
+    out: &mut W,
+) -> Result<Status, Failure>
+    ensures failed { IfErr result (λ failure. (failure ≡ Failure.WriteFailed) ⊎ (failure ≡ Failure.OutOfMemory)) }
+    ensures device_failed { OutputFails result (W.failures out.old) (W.failures out.new) }
+    ensures no_memory { result ≡ Err Failure.OutOfMemory → out.new ≡ out.old }
+    ensures beginning { AppendsBeginning (W.contents out.old) (W.contents out.new) (answer_text found.now) }
     ensures done { IfOk result (λ status. status ≡ Status.Done) }
     ensures written { OnOk result (Appends (W.contents out.old) (W.contents out.new) (answer_text found.now)) }
 {
-    write!(out, "{found}").map_err(|_| Failure::WriteFailed)?;
-    out.flush().map_err(|_| Failure::WriteFailed)?;
+    let text = found.to_string(alloc)?;
+    write_through(text.as_bytes(), out)?;
     Ok(Status::Done)
 }
 
-fn write_refusal<W: Write>(code: Code, out: &mut W) -> Result<Status, Failure>
-    ensures failed { IfErr result (λ failure. failure ≡ Failure.WriteFailed) }
+fn write_refusal<W: CountedWrite>(alloc: Global, code: Code, out: &mut W) -> Result<Status, Failure>
+    ensures failed { IfErr result (λ failure. (failure ≡ Failure.WriteFailed) ⊎ (failure ≡ Failure.OutOfMemory)) }
+    ensures device_failed { OutputFails result (W.failures out.old) (W.failures out.new) }
+    ensures no_memory { result ≡ Err Failure.OutOfMemory → out.new ≡ out.old }
+    ensures beginning { AppendsBeginning (W.contents out.old) (W.contents out.new) ((codes "refused " ++ code_text code) ++ codes "\n") }
     ensures refused { IfOk result (λ status. status ≡ Status.Refused) }
     ensures written { OnOk result (Appends (W.contents out.old) (W.contents out.new) ((codes "refused " ++ code_text code) ++ codes "\n")) }
 {
-    writeln!(out, "refused {code}").map_err(|_| Failure::WriteFailed)?;
-    out.flush().map_err(|_| Failure::WriteFailed)?;
+    let line = format!(in alloc; "refused {code}\n")?;
+    write_through(line.as_bytes(), out)?;
     Ok(Status::Refused)
 }

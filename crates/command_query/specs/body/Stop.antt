@@ -1,11 +1,11 @@
 -- Faults as the stops of a command (docs/COMMANDS.md, "Refusals").
-use Rattle.std.specs.Prelude.{◌≡◌, List, None, Option, Some, ℕ}
+use Rattle.std.specs.Prelude.{◌≡◌, Err, List, None, Ok, Option, Result, Some, suc, ℕ}
 use Rattle.control_line.specs.declared.reason.Reason.{Reason}
 use Rattle.control_line.specs.Reason.{reason_of_text}
 use Rattle.bpf_formats.specs.declared.fault.FormatFault.{FormatFault}
 use Rattle.bpf_formats.specs.declared.fault.FormatFault.TheVariants as format_fault
 use Rattle.filter_program.specs.declared.fault.TextFault.{TextFault}
-use Rattle.command_line.specs.declared.ending.Failure.TheVariants.{OutOfMemory}
+use Rattle.command_line.specs.declared.ending.Failure.TheVariants.{OutOfMemory, ReadFailed}
 use Rattle.command_query.specs.Format.{IsFormatFault, IsRefusalOfProgram}
 use Rattle.command_query.specs.declared.format.InputFormat.{InputFormat}
 use Rattle.command_query.specs.declared.stop.Stop.{Stop}
@@ -35,3 +35,9 @@ abbrev pub IsStopByProgram : InputFormat → List ℕ → Stop → Type 0
 IsStopByProgram format text (Refused reason) = IsRefusalOfProgram format text reason
 IsStopByProgram format text (Misformed fault) = IsFormatFault format text fault
 IsStopByProgram format text (Failed failure) = failure ≡ OutOfMemory
+
+-- one read of the input failed if the stop is a failure to read, and else none
+abbrev pub StopsByInput : {A : Type 0} → Result A Stop → ℕ → ℕ → Type 0
+StopsByInput (Ok found) before after = after ≡ before
+StopsByInput (Err (Failed ReadFailed)) before after = after ≡ suc before
+StopsByInput (Err stop) before after = after ≡ before
