@@ -2,6 +2,7 @@
 
 ghost use Rattle.std.specs.Prelude.{◌≡◌, ◌<◌, List, None, Option, ℕ};
 ghost use Rattle.dispatch.specs.Memory.{MOST_FAILURES};
+ghost use Rattle.command_streams.specs.Failures.{FailuresValue};
 ghost use Rattle.command_replay.specs.body.Opened.{failures_after};
 
 use command_streams::CountedWrite;
@@ -14,13 +15,13 @@ use std::marker::{Brand, Model, PhantomData};
 pub(crate) trait Opened {
     ghost contents: { Option (List ℕ) };
 
-    ghost failures: { ℕ };
+    ghost failures: { FailuresValue };
 }
 
 impl Opened for Brand {
     ghost contents = { None };
 
-    ghost failures = { 0 };
+    ghost failures = { record { count = 0; borrow = 0 } };
 }
 
 /// A destination of results. Fails if a write of it fails. It ends by `into_inner`.
@@ -34,8 +35,7 @@ pub(crate) struct ReplyOutput<'a, W: CountedWrite, L: Opened> {
 }
 
 impl<'a, W: CountedWrite, L: Opened> Model for ReplyOutput<'a, W, L> {
-    ghost use Rattle.std.specs.Prelude.{◌≡◌, ◌<◌};
-    ghost use Rattle.dispatch.specs.Memory.{MOST_FAILURES};
+    ghost use Rattle.std.specs.Prelude.{◌≡◌};
     ghost use Rattle.control.specs.Streams.{ToWriteValue, output_over};
     ghost use Rattle.command_replay.specs.body.Opened.{failures_after};
 

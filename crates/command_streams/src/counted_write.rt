@@ -2,7 +2,7 @@
 
 ghost use Rattle.std.specs.Prelude.{◌<◌, ◌≤◌, IfOk, List, Option, length, ℕ};
 ghost use Rattle.std.specs.Io.KnownBytes.{Keeps, WriteAppends};
-ghost use Rattle.command_streams.specs.Failures.{CountsUpTo};
+ghost use Rattle.command_streams.specs.Failures.{CountsUpTo, FailuresValue};
 
 use control::Failed;
 
@@ -11,8 +11,8 @@ pub trait CountedWrite {
     // The bytes that it has, if they are known.
     ghost contents: { Self → Option (List ℕ) };
 
-    // How many of its writes and flushes failed; after the most that can be counted, this many.
-    ghost failures: { Self → ℕ };
+    // How many of its writes and flushes failed; after the most that can be counted, this many. Also the name of a borrow.
+    ghost failures: { Self → FailuresValue };
 
     /// Writes a beginning of the bytes, and returns its length, which is at least 1 if there are bytes.
     fn write(&mut self, bytes: &[u8]) -> Result<usize, Failed>

@@ -53,7 +53,7 @@ impl<'a, W: Write> CountedWriter<'a, W> {
 impl<W: Write> CountedWrite for CountedWriter<'_, W> {
     ghost contents = { λ counted. W.contents counted.writer };
 
-    ghost failures = { λ counted. counted.failures };
+    ghost failures = { λ counted. record { count = counted.failures; borrow = counted.borrow } };
 
     fn write(&mut self, bytes: &[u8]) -> Result<usize, Failed> {
         if bytes.is_empty() {
