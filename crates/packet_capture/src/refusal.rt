@@ -13,10 +13,7 @@ use command_streams::CountedWrite;
 use itoa::Buffer;
 
 /// Writes the refusal as a line.
-pub(crate) fn write_fault<W: CountedWrite>(
-    fault: HeaderFault,
-    out: &mut W,
-) -> Result<(), Failure>
+pub(crate) fn write_fault<W: CountedWrite>(fault: HeaderFault, out: &mut W) -> Result<(), Failure>
     ensures failed { IfErr result (λ failure. failure ≡ Failure.WriteFailed) }
     ensures written { OnOk result (Appends (W.contents out.old) (W.contents out.new) (header_fault_text fault ++ codes "\n")) }
     ensures beginning { AppendsBeginning (W.contents out.old) (W.contents out.new) (header_fault_text fault ++ codes "\n") }
