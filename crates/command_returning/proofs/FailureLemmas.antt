@@ -1,5 +1,5 @@
 -- How commands fail, and what they have written then.
-use Rattle.std.proofs.Common.{◌≡◌, ◌∙◌, ◌⊎◌, Bool, Err, List, None, Ok, Option, Result, Some, [], ap, false, inl, inr, refl, subst, sym, true, ℕ}
+use Rattle.std.proofs.Common.{◌≡◌, ◌∙◌, ◌⊎◌, Bool, Err, List, None, Ok, Option, Result, Some, [], ap, false, inl, inr, refl, subst, suc, sym, true, ℕ}
 use Rattle.std.specs.Prelude.{IfErr, IfOk, IfSome, OnErr}
 use Rattle.std.specs.Result.{result_ok}
 use Rattle.command_line.specs.declared.command.Waiting.{Waiting}
@@ -14,10 +14,14 @@ use Rattle.command_line.specs.declared.command.Query.{Query}
 use Rattle.command_line.specs.declared.command.Query.TheVariants as query
 use Rattle.command_line.specs.declared.ending.Failure.{Failure}
 use Rattle.command_line.specs.declared.ending.Failure.TheVariants.{BindFailed, NoAnswer, OutOfMemory, PollFailed, ReadFailed, RulesChanged, SpawnFailed, WriteFailed}
-use Rattle.command_query.specs.Query.{MayFail, QueryWritesBefore}
+use Rattle.command_line.specs.declared.ending.Status.TheVariants as status
+use Rattle.command_query.specs.Query.{IsAnswerText, MayFail, QueryWritesBefore}
+use Rattle.command_streams.specs.Failures.{FailuresValue, HasCause, OutputFails, known_after}
+use Rattle.command_streams.proofs.FailureLemmas.{is_known_after, write_cause}
+use Rattle.control.specs.Streams.{InputValue}
 use Rattle.command_replay.specs.Replaying.{ReplayMayFail}
 use Rattle.command_replay.proofs.RepliesLemmas.{begins_with_none}
-use Rattle.command_returning.specs.Request.{AskToWait, EndsInFailure, MayFailBy, Writes, WritesBefore, WritesBeforeBy}
+use Rattle.command_returning.specs.Request.{AskToWait, EndsInFailure, EndsWithCause, MayFailBy, Writes, WritesBefore, WritesBeforeBy}
 
 -- where the words have a fault, they ask for no command that may wait
 text_may_fail : (words : List Text) (fault : Error) (failure : Failure) → HasKind (faults_in words) fault
@@ -62,7 +66,7 @@ never_misused (packets unwrap) known before after writes = writes.2.text_is
 never_misused (spread depth by shares) known before after writes = writes.1
 never_misused (replay summary quiet) known before after writes = let done = writes.done in cc
 
-query_before : (it : Query) (failure : Failure) (known before after : Option (List ℕ)) → QueryWritesBefore failure before after
+query_before : (it : Query) (failure : Failure) (known before after : Option (List ℕ)) → QueryWritesBefore (query_request it) failure known before after
     → WritesBefore (query_request it) failure known before after
 query_before query.First failure known before after is = is
 query_before (query.Check _) failure known before after is = is
@@ -73,10 +77,32 @@ query_before (query.Pack _ _ _ _) failure known before after is = is
 query_before (query.Explain _) failure known before after is = is
 query_before (query.Spread _) failure known before after is = is
 
-pub query_fails : (it : Query) (result : Result Status Failure) (known before after : Option (List ℕ)) → IfErr result (λ failure. QueryWritesBefore failure before after)
-    → IfErr result (λ failure. WritesBefore (query_request it) failure known before after)
-query_fails it (Ok status) known before after is = tt
-query_fails it (Err failure) known before after is = query_before it failure known before after is
+-- the text of an input is that of what is known of it afterwards
+text_after : (request : Request) (input input' : InputValue) (ended : Status) (text : List ℕ) → IsAnswerText request input.coming ended text
+    → IsAnswerText request (known_after input input') ended text
+text_after request input input' Done text (answer, (read, is, found), same) = (answer, (read, is_known_after input input' read is, found), same)
+text_after request input input' status.Refused text (inl (reason, (read, is, why), same)) = inl (reason, (read, is_known_after input input' read is, why), same)
+text_after request input input' status.Refused text (inr (fault, (read, is, why), same)) = inr (fault, (read, is_known_after input input' read is, why), same)
+text_after request input input' Misused text is = is
+text_after request input input' Failed text is = is
+
+query_after : (request : Request) (failure : Failure) (input input' : InputValue) (before after : Option (List ℕ)) → QueryWritesBefore request failure input.coming before after
+    → QueryWritesBefore request failure (known_after input input') before after
+query_after request WriteFailed input input' before after (ended, text, is, begun) = (ended, text, text_after request input input' ended text is, begun)
+query_after request ReadFailed input input' before after is = is
+query_after request OutOfMemory input input' before after is = is
+query_after request SpawnFailed input input' before after is = is
+query_after request BindFailed input input' before after is = is
+query_after request PollFailed input input' before after is = is
+query_after request NoAnswer input input' before after is = is
+query_after request RulesChanged input input' before after is = is
+
+pub query_fails : (it : Query) (result : Result Status Failure) (input input' : InputValue) (before after : Option (List ℕ))
+    → IfErr result (λ failure. QueryWritesBefore (query_request it) failure input.coming before after)
+    → IfErr result (λ failure. WritesBefore (query_request it) failure (known_after input input') before after)
+query_fails it (Ok ended) input input' before after is = tt
+query_fails it (Err failure) input input' before after is =
+    query_before it failure (known_after input input') before after (query_after (query_request it) failure input input' before after is)
 
 pub replay_fails : (summary quiet : Bool) (result : Result Status Failure) → IfErr result ReplayMayFail → IfErr result (MayFail (replay summary quiet))
 replay_fails summary quiet (Ok status) may = tt
@@ -146,14 +172,14 @@ may_fail_by words request NoAnswer is may = may
 may_fail_by words request RulesChanged is may = may
 
 pub command_failed : {X : Type 0} (errors : X → Option (List ℕ)) (errs mid : X) (words : List Text) (request : Request) (ended : Result Status Failure) (status : Status)
-    (known before after told_after : Option (List ℕ))
+    (known whole before after told_after : Option (List ℕ))
     → command_in words ≡ Some (returning request) → IfErr ended (MayFail request) → IfErr ended (λ failure. WritesBefore request failure known before after)
     → OnErr ended (mid ≡ errs) → IfErr ended (λ failure. AppendsBeginning (errors mid) told_after (line_of failure))
-    → IfOk ended (λ given. status ≡ given) → IfOk ended (λ given. Writes request known given before after) → status ≡ Failed
+    → IfOk ended (λ given. status ≡ given) → IfOk ended (λ given. Writes request whole given before after) → status ≡ Failed
     → EndsInFailure words known before after (errors errs) told_after
-command_failed errors errs mid words request (Ok given) status known before after told_after named may written untold told is writes failed =
-    absurd (never_failed request known before after (subst (λ s. Writes request known s before after) (sym is ∙ failed) writes))
-command_failed errors errs mid words request (Err failure) status known before after told_after named may written untold told is writes failed = record {
+command_failed errors errs mid words request (Ok given) status known whole before after told_after named may written untold told is writes failed =
+    absurd (never_failed request whole before after (subst (λ s. Writes request whole s before after) (sym is ∙ failed) writes))
+command_failed errors errs mid words request (Err failure) status known whole before after told_after named may written untold told is writes failed = record {
   failure = failure;
   may_fail = may_fail_by words request failure named may;
   written = (λ none other also. subst (λ r. WritesBefore r failure known before after) (same_request words request other named also) written, λ ask. absurd (waits_not words request named ask));
@@ -177,6 +203,59 @@ fault_failed errors contents errs mid out out' words fault (Err failure) status 
       written = before_text words fault failure known (contents out) (contents out') kinds same (λ e. ap contents (memory e).1);
       told = subst (λ e. AppendsBeginning (errors e) told_after (line_of failure)) untold told;
     }
+
+-- ---- and by which device
+
+pub command_caused : {X : Type 0} (errors : X → Option (List ℕ)) (errs mid : X) (words : List Text) (request : Request) (ended : Result Status Failure) (status : Status)
+    (known whole before after told_after : Option (List ℕ)) (read read' : ℕ) (wrote wrote' : FailuresValue)
+    → command_in words ≡ Some (returning request) → IfErr ended (MayFail request) → IfErr ended (λ failure. WritesBefore request failure known before after)
+    → OnErr ended (mid ≡ errs) → IfErr ended (λ failure. AppendsBeginning (errors mid) told_after (line_of failure))
+    → IfOk ended (λ given. status ≡ given) → IfOk ended (λ given. Writes request whole given before after) → status ≡ Failed
+    → HasCause ended read read' wrote wrote'
+    → EndsWithCause words known before after (errors errs) told_after read read' wrote wrote'
+unfolding command_failed
+command_caused errors errs mid words request (Ok given) status known whole before after told_after read read' wrote wrote' named may written untold told is writes failed cause =
+    absurd (never_failed request whole before after (subst (λ s. Writes request whole s before after) (sym is ∙ failed) writes))
+command_caused errors errs mid words request (Err failure) status known whole before after told_after read read' wrote wrote' named may written untold told is writes failed cause = record {
+  ends = command_failed errors errs mid words request (Err failure) status known whole before after told_after named may written untold told is writes failed;
+  cause = cause;
+}
+
+pub fault_caused : {X Y : Type 0} (errors : X → Option (List ℕ)) (contents : Y → Option (List ℕ)) (errs mid : X) (out out' : Y) (words : List Text) (fault : Error)
+    (ended : Result Status Failure) (status : Status) (known told_after : Option (List ℕ)) (read : ℕ) (wrote wrote' : FailuresValue)
+    → HasKind (faults_in words) fault → IfErr ended (λ failure. (failure ≡ WriteFailed) ⊎ (failure ≡ OutOfMemory))
+    → (kind_of fault ≡ kind.OutOfMemory → (ended ≡ Err OutOfMemory) × (out' ≡ out))
+    → OnErr ended (mid ≡ errs) → IfErr ended (λ failure. AppendsBeginning (errors mid) told_after (line_of failure))
+    → IfOk ended (λ given. status ≡ given) → IfOk ended (λ given. (given ≡ Done) ⊎ (given ≡ Misused)) → status ≡ Failed
+    → OutputFails ended wrote wrote'
+    → EndsWithCause words known (contents out) (contents out') (errors errs) told_after read read wrote wrote'
+unfolding fault_failed
+fault_caused errors contents errs mid out out' words fault (Ok given) status known told_after read wrote wrote' kinds either memory untold told is ends failed output =
+    elim ends [ inl done ↦ let same : ◌≡◌ {A = Status} Failed Done = sym failed ∙ is ∙ done in cc | inr misused ↦ let same : ◌≡◌ {A = Status} Failed Misused = sym failed ∙ is ∙ misused in cc ]
+fault_caused errors contents errs mid out out' words fault (Err failure) status known told_after read wrote wrote' kinds either memory untold told is ends failed output = record {
+  ends = fault_failed errors contents errs mid out out' words fault (Err failure) status known told_after kinds either memory untold told is ends failed;
+  cause = write_cause {A = Status} (Err failure) read read wrote wrote' either refl output;
+}
+
+-- ---- a new input and a new output
+
+-- an input that failed at most once is known as it was
+pub known_of_new : (input input' : InputValue) (failure : Failure) (wrote wrote' : FailuresValue) → input.failures ≡ 0 → HasCause {A = Status} (Err failure) input.failures input'.failures wrote wrote'
+    → known_after input input' ≡ input.coming
+known_of_new input input' ReadFailed wrote wrote' new cause = ap (λ n. known_after input (record { failures = n; coming = input'.coming; left = input'.left })) (cause.0 ∙ ap suc new)
+known_of_new input input' WriteFailed wrote wrote' new cause = ap (λ n. known_after input (record { failures = n; coming = input'.coming; left = input'.left })) (cause.0 ∙ new)
+known_of_new input input' OutOfMemory wrote wrote' new cause = ap (λ n. known_after input (record { failures = n; coming = input'.coming; left = input'.left })) (cause.0 ∙ new)
+known_of_new input input' SpawnFailed wrote wrote' new cause = ap (λ n. known_after input (record { failures = n; coming = input'.coming; left = input'.left })) (cause.0 ∙ new)
+known_of_new input input' BindFailed wrote wrote' new cause = ap (λ n. known_after input (record { failures = n; coming = input'.coming; left = input'.left })) (cause.0 ∙ new)
+known_of_new input input' PollFailed wrote wrote' new cause = ap (λ n. known_after input (record { failures = n; coming = input'.coming; left = input'.left })) (cause.0 ∙ new)
+known_of_new input input' NoAnswer wrote wrote' new cause = ap (λ n. known_after input (record { failures = n; coming = input'.coming; left = input'.left })) (cause.0 ∙ new)
+known_of_new input input' RulesChanged wrote wrote' new cause = ap (λ n. known_after input (record { failures = n; coming = input'.coming; left = input'.left })) (cause.0 ∙ new)
+
+-- what holds of their bytes holds of the bytes of the reader and the writer
+pub of_streams : (P : Option (List ℕ) → Option (List ℕ) → Option (List ℕ) → Type 0) (known known' before before' after after' : Option (List ℕ))
+    → known ≡ known' → before ≡ before' → after ≡ after' → P known before after → P known' before' after'
+of_streams P known known' before before' after after' same_input same_before same_after holds =
+    subst (λ bytes. P known' before' bytes) same_after (subst (λ bytes. P known' bytes after) same_before (subst (λ bytes. P bytes before after) same_input holds))
 
 -- ---- words whose command may wait
 

@@ -1,7 +1,7 @@
 -- The effect of a command, by its words and its input: what it writes, and how it may fail (docs/COMMANDS.md). `known` are the bytes of
 -- the input, if they are known. `before` and `after` are the contents of the output before and after the command, if they are known;
 -- `told_before` and `told_after` are the same of standard error.
-use Rattle.std.specs.Prelude.{◌≡◌, ◌⊎◌, List, Option, Some, [], ℕ}
+use Rattle.std.specs.Prelude.{◌≡◌, ◌⊎◌, Err, List, Option, Some, [], ℕ}
 use Rattle.clap.specs.Words.{Text}
 use Rattle.command_line.specs.declared.ending.Failure.{Failure}
 use Rattle.command_line.specs.declared.ending.Failure.TheVariants.{BindFailed, NoAnswer, OutOfMemory, PollFailed, ReadFailed, RulesChanged, SpawnFailed, WriteFailed}
@@ -9,6 +9,7 @@ use Rattle.command_line.specs.declared.ending.Status.{Status}
 use Rattle.command_line.specs.CommandLine.{Request, WaitingRequest, command_in, faults_in, packets, replay, returning, waiting}
 use Rattle.command_line.specs.Ending.{AppendsBeginning, line_of}
 use Rattle.command_line.specs.Input.{IsInput}
+use Rattle.command_streams.specs.Failures.{FailuresValue, HasCause}
 use Rattle.command_replay.specs.Replaying.{ReplayWritesBefore, WritesScript}
 use Rattle.packet_capture.specs.Packets.{TellsCounts, WritesBeginning, WritesFirst, WritesText}
 use Rattle.command_query.specs.Query.{QueryWritesBefore, ReadsInput, WritesAnswer}
@@ -61,13 +62,13 @@ BeginsPackets unwrap known before after = (file : List ℕ) × IsInput known fil
 abbrev pub PacketsWriteBefore : Option ℕ → Failure → Option (List ℕ) → Option (List ℕ) → Option (List ℕ) → Type 0
 PacketsWriteBefore unwrap OutOfMemory known before after = (after ≡ before) ⊎ WritesFirstPackets unwrap known before after
 PacketsWriteBefore unwrap WriteFailed known before after = BeginsPackets unwrap known before after
-PacketsWriteBefore unwrap failure known before after = QueryWritesBefore failure before after
+PacketsWriteBefore unwrap failure known before after = after ≡ before
 
--- the output before each failure: what is promised of a failed write is promised of `replay` and `packets` alone
+-- the output before each failure
 abbrev pub WritesBefore : Request → Failure → Option (List ℕ) → Option (List ℕ) → Option (List ℕ) → Type 0
 WritesBefore (replay summary quiet) failure known before after = ReplayWritesBefore summary quiet failure known before after
 WritesBefore (packets unwrap) failure known before after = PacketsWriteBefore unwrap failure known before after
-WritesBefore request failure known before after = QueryWritesBefore failure before after
+WritesBefore request failure known before after = QueryWritesBefore request failure known before after
 
 -- the same of the command that words without a fault name; of one that may wait, nothing was written
 abbrev pub WritesBeforeBy : List Text → Failure → Option (List ℕ) → Option (List ℕ) → Option (List ℕ) → Type 0
@@ -81,3 +82,9 @@ pub record EndsInFailure (words : List Text) (known before after told_before tol
   pub may_fail : MayFailBy words failure
   pub written : WritesBeforeBy words failure known before after
   pub told : AppendsBeginning told_before told_after (line_of failure)
+
+-- a command failed so, and by a device that failed; `read` and `read'` are the failures of its input before and after it, `wrote` and
+-- `wrote'` those of its output
+pub record EndsWithCause (words : List Text) (known before after told_before told_after : Option (List ℕ)) (read read' : ℕ) (wrote wrote' : FailuresValue) : Type 0 where
+  pub ends : EndsInFailure words known before after told_before told_after
+  pub cause : HasCause {A = Status} (Err ends.failure) read read' wrote wrote'

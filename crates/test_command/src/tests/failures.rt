@@ -128,12 +128,20 @@ fn failed_read_is_e1(rt: HostRuntime) {
     expect_failed_reads(&rt, alloc, &run, "value 65535 steps 3 kept 29\n");
 }
 
-// The reader may want memory too.
+// A read that fails since the system lacks memory is a failed read, too. E3 is for memory that the command itself is refused.
 #[test]
-fn read_without_memory_is_e3(rt: HostRuntime) {
-    let input = Source::new(PROGRAM, 7, 1, ErrorKind::OutOfMemory);
-    let mut out = Sink::open(rt.alloc());
-    expect_failure(&rt, rt.alloc(), &["check"], input, &mut out, "failed E3\n");
+fn read_without_memory_is_e1(rt: HostRuntime) {
+    let commands: [&[&str]; 4] = [
+        &["check"],
+        &["run", "--packet", SAMPLE_PACKET],
+        &["replay"],
+        &["packets"],
+    ];
+    for words in &commands {
+        let input = Source::new(PROGRAM, 7, 1, ErrorKind::OutOfMemory);
+        let mut out = Sink::open(rt.alloc());
+        expect_failure(&rt, rt.alloc(), words, input, &mut out, "failed E1\n");
+    }
 }
 
 // The output of commands that read no input, after their status.

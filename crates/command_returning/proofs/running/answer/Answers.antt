@@ -1,5 +1,5 @@
 use Rattle.std.proofs.Common.{rules}
-use Rattle.command_returning.proofs.answer.Goals as goal
+use Rattle.command_returning.proofs.running.answer.Goals as goal
 
 pub returns-clause-done : goal.returns-clause-done
 returns-clause-done g c = search rules
@@ -24,54 +24,6 @@ returns-clause-nothing_written g c = search rules
 
 pub returns-clause-untold : goal.returns-clause-untold
 returns-clause-untold g c = search rules
-
-pub returns-in_err-map_err-2-clause-done : goal.returns-in_err-map_err-2-clause-done
-returns-in_err-map_err-2-clause-done g c = search rules
-
-pub returns-in_err-map_err-2-clause-done_or_misused : goal.returns-in_err-map_err-2-clause-done_or_misused
-returns-in_err-map_err-2-clause-done_or_misused g c = search rules
-
-pub returns-in_err-map_err-2-clause-failed : goal.returns-in_err-map_err-2-clause-failed
-returns-in_err-map_err-2-clause-failed g c = search rules
-
-pub returns-in_err-map_err-2-clause-misused : goal.returns-in_err-map_err-2-clause-misused
-returns-in_err-map_err-2-clause-misused g c = search rules
-
-pub returns-in_err-map_err-2-clause-no_errors : goal.returns-in_err-map_err-2-clause-no_errors
-returns-in_err-map_err-2-clause-no_errors g c = search rules
-
-pub returns-in_err-map_err-2-clause-no_memory : goal.returns-in_err-map_err-2-clause-no_memory
-returns-in_err-map_err-2-clause-no_memory g c = search rules
-
-pub returns-in_err-map_err-2-clause-nothing_written : goal.returns-in_err-map_err-2-clause-nothing_written
-returns-in_err-map_err-2-clause-nothing_written g c = search rules
-
-pub returns-in_err-map_err-2-clause-untold : goal.returns-in_err-map_err-2-clause-untold
-returns-in_err-map_err-2-clause-untold g c = search rules
-
-pub returns-in_err-map_err-clause-done : goal.returns-in_err-map_err-clause-done
-returns-in_err-map_err-clause-done g c = search rules
-
-pub returns-in_err-map_err-clause-done_or_misused : goal.returns-in_err-map_err-clause-done_or_misused
-returns-in_err-map_err-clause-done_or_misused g c = search rules
-
-pub returns-in_err-map_err-clause-failed : goal.returns-in_err-map_err-clause-failed
-returns-in_err-map_err-clause-failed g c = search rules
-
-pub returns-in_err-map_err-clause-misused : goal.returns-in_err-map_err-clause-misused
-returns-in_err-map_err-clause-misused g c = search rules
-
-pub returns-in_err-map_err-clause-no_errors : goal.returns-in_err-map_err-clause-no_errors
-returns-in_err-map_err-clause-no_errors g c = search rules
-
-pub returns-in_err-map_err-clause-no_memory : goal.returns-in_err-map_err-clause-no_memory
-returns-in_err-map_err-clause-no_memory g c = search rules
-
-pub returns-in_err-map_err-clause-nothing_written : goal.returns-in_err-map_err-clause-nothing_written
-returns-in_err-map_err-clause-nothing_written g c = search rules
-
-pub returns-in_err-map_err-clause-untold : goal.returns-in_err-map_err-clause-untold
-returns-in_err-map_err-clause-untold g c = search rules
 
 pub returns-then-eq-clause-done : goal.returns-then-eq-clause-done
 returns-then-eq-clause-done g c = search rules

@@ -2,13 +2,13 @@ use Rattle.std.proofs.Common.{◌∙◌, ap, sym}
 use Rattle.command_line.specs.CommandLine.{request_of}
 use Rattle.command_returning.proofs.FailureLemmas.{query_fails, replay_fails}
 use Rattle.command_returning.proofs.PacketsLemmas.{of_another, of_no_other, of_packets, query_differs, replay_differs}
-use Rattle.command_returning.proofs.run_command.Goals as goal
+use Rattle.command_returning.proofs.running.run_command.Goals as goal
 
 pub returns-in-Query-clause-counted : goal.returns-in-Query-clause-counted
 returns-in-Query-clause-counted g c = of_another _ c.run_query.result (request_of c.args.command) (λ port is. query_differs _ port (sym (ap request_of c.in-Query.is) ∙ is))
 
 pub returns-in-Query-clause-failed_written : goal.returns-in-Query-clause-failed_written
-returns-in-Query-clause-failed_written g c = rw c.in-Query.is (query_fails c.in-Query.query c.run_query.result _ _ _ c.run_query.ensures.failed_written)
+returns-in-Query-clause-failed_written g c = rw c.in-Query.is (query_fails c.in-Query.query c.run_query.result (g.R.Input.state c.args.input.now) (g.R.Input.state c.run_query.new.input) _ _ c.run_query.ensures.failed_written)
 
 pub returns-in-Replay-clause-counted : goal.returns-in-Replay-clause-counted
 returns-in-Replay-clause-counted g c = of_another _ c.run_replay.result (request_of c.args.command) (λ port is. replay_differs _ _ port (sym (ap request_of c.in-Replay.is) ∙ is))

@@ -1,4 +1,4 @@
-use Rattle.std.proofs.Common.{◌≡◌, ◌∙◌, Err, Ok, Result, Some, ap, inl, inr, map, rules, string_bytes, subst, sym}
+use Rattle.std.proofs.Common.{refl, ◌≡◌, ◌∙◌, Err, Ok, Result, Some, ap, inl, inr, map, rules, string_bytes, subst, sym}
 use Rattle.clap.specs.Words.{IsAmong, kind_of}
 use Rattle.command_line.specs.CommandLine.{command_of, faults_in, packets, request_of, returning}
 use Rattle.command_line.specs.declared.command.Subcommand.{Subcommand}
@@ -6,8 +6,9 @@ use Rattle.command_line.specs.declared.ending.Failure.{Failure}
 use Rattle.command_line.specs.declared.ending.Failure.TheVariants.{OutOfMemory}
 use Rattle.command_line.specs.declared.ending.Status.{Status}
 use Rattle.command_line.specs.declared.ending.Status.TheVariants.{Done, Failed, Misused, Refused}
-use Rattle.command_returning.proofs.FailureLemmas.{command_failed, ended_ok, fault_failed, never_misused, same_request, waits_not}
-use Rattle.command_returning.proofs.run_returning.Goals as goal
+use Rattle.command_streams.proofs.FailureLemmas.{cause_borrow, write_cause}
+use Rattle.command_returning.proofs.FailureLemmas.{command_caused, command_failed, ended_ok, fault_caused, fault_failed, never_misused, same_request, waits_not}
+use Rattle.command_returning.proofs.running.run_over.Goals as goal
 
 pub returns-in-Ok-Returning-clause-answers : goal.returns-in-Ok-Returning-clause-answers
 returns-in-Ok-Returning-clause-answers g c = λ ask. absurd (waits_not (map string_bytes c.args.words.now) (request_of c.in-Ok-Returning.command) (c.in-Ok-Returning.ensures.named ∙ ap (λ (s : Subcommand). Some (command_of s)) c.in-Ok-Returning.field-0-is) ask)
@@ -45,7 +46,7 @@ pub returns-in-Ok-Returning-clause-failed : goal.returns-in-Ok-Returning-clause-
 returns-in-Ok-Returning-clause-failed g c = λ three.
     let is : c.reported.result ≡ Failed = search rules in
     let run = c.run_command-ended.ensures in let told = c.reported.ensures in
-    command_failed g.E.Write.contents _ _ (map string_bytes c.args.words.now) (request_of c.in-Ok-Returning.command) c.run_command-ended.result c.reported.result _ _ _ _ (c.in-Ok-Returning.ensures.named ∙ ap (λ (s : Subcommand). Some (command_of s)) c.in-Ok-Returning.field-0-is) run.failed run.failed_written run.untold told.told told.status run.written is
+    command_failed g.E.Write.contents _ _ (map string_bytes c.args.words.now) (request_of c.in-Ok-Returning.command) c.run_command-ended.result c.reported.result _ _ _ _ _ (c.in-Ok-Returning.ensures.named ∙ ap (λ (s : Subcommand). Some (command_of s)) c.in-Ok-Returning.field-0-is) run.failed run.failed_written run.untold told.told told.status run.written is
 
 pub returns-in-Ok-Returning-clause-no_errors : goal.returns-in-Ok-Returning-clause-no_errors
 returns-in-Ok-Returning-clause-no_errors g c = λ either other. elim either [
@@ -121,7 +122,7 @@ pub returns-in-Err-clause-failed : goal.returns-in-Err-clause-failed
 returns-in-Err-clause-failed g c = λ three.
     let is : c.reported-in-Err.result ≡ Failed = search rules in
     let told = c.reported-in-Err.ensures in let answer = c.answer.ensures in
-    fault_failed g.E.Write.contents g.W.Write.contents _ _ _ _ (map string_bytes c.args.words.now) c.in-Err.fault c.answer.result c.reported-in-Err.result _ _ c.in-Err.ensures.faults answer.failed answer.no_memory answer.untold told.told told.status answer.done_or_misused is
+    fault_failed g.E.Write.contents g.W.CountedWrite.contents _ _ _ _ (map string_bytes c.args.words.now) c.in-Err.fault c.answer.result c.reported-in-Err.result _ _ c.in-Err.ensures.faults answer.failed answer.no_memory answer.untold told.told told.status answer.done_or_misused is
 
 pub returns-in-Err-clause-no_errors : goal.returns-in-Err-clause-no_errors
 returns-in-Err-clause-no_errors g c = λ either other. elim either [
@@ -149,3 +150,59 @@ returns-in-Err-clause-counted g c = λ either none port also. elim either [
         | inr among ↦ absurd (subst (IsAmong (kind_of c.in-Err.fault)) none among)
       ]
 ]
+
+pub returns-in-Ok-Returning-clause-device_failed : goal.returns-in-Ok-Returning-clause-device_failed
+returns-in-Ok-Returning-clause-device_failed g c = λ three.
+    let is : c.reported.result ≡ Failed = search rules in
+    let run = c.run_command-ended.ensures in let told = c.reported.ensures in
+    command_caused g.E.Write.contents _ _ (map string_bytes c.args.words.now) (request_of c.in-Ok-Returning.command) c.run_command-ended.result c.reported.result _ _ _ _ _ _ _ _ _ (c.in-Ok-Returning.ensures.named ∙ ap (λ (s : Subcommand). Some (command_of s)) c.in-Ok-Returning.field-0-is) run.failed run.failed_written run.untold told.told told.status run.written is run.device_failed
+
+pub returns-in-Ok-Returning-clause-no_device_failed : goal.returns-in-Ok-Returning-clause-no_device_failed
+returns-in-Ok-Returning-clause-no_device_failed g c = λ either. elim either [
+  | inl none ↦ cc
+  | inr done_or ↦ elim done_or [
+    | inl zero ↦
+        let is : c.reported.result ≡ Done = search rules in
+        rw (ended_ok c.run_command-ended.result c.reported.result Done c.reported.ensures.status c.reported.ensures.failed is (λ e. cc)) at c.run_command-ended.ensures.device_failed
+    | inr refused_or ↦ elim refused_or [
+      | inl one ↦
+          let is : c.reported.result ≡ Refused = search rules in
+          rw (ended_ok c.run_command-ended.result c.reported.result Refused c.reported.ensures.status c.reported.ensures.failed is (λ e. cc)) at c.run_command-ended.ensures.device_failed
+      | inr two ↦
+          let is : c.reported.result ≡ Misused = search rules in
+          rw (ended_ok c.run_command-ended.result c.reported.result Misused c.reported.ensures.status c.reported.ensures.failed is (λ e. cc)) at c.run_command-ended.ensures.device_failed
+    ]
+  ]
+]
+
+pub returns-in-Err-clause-device_failed : goal.returns-in-Err-clause-device_failed
+returns-in-Err-clause-device_failed g c = λ three.
+    let is : c.reported-in-Err.result ≡ Failed = search rules in
+    let told = c.reported-in-Err.ensures in let answer = c.answer.ensures in
+    fault_caused g.E.Write.contents g.W.CountedWrite.contents _ _ _ _ (map string_bytes c.args.words.now) c.in-Err.fault c.answer.result c.reported-in-Err.result _ _ _ _ _ c.in-Err.ensures.faults answer.failed answer.no_memory answer.untold told.told told.status answer.done_or_misused is answer.device_failed
+
+pub returns-in-Err-clause-no_device_failed : goal.returns-in-Err-clause-no_device_failed
+returns-in-Err-clause-no_device_failed g c = λ either. elim either [
+  | inl none ↦ cc
+  | inr done_or ↦ elim done_or [
+    | inl zero ↦
+        let is : c.reported-in-Err.result ≡ Done = search rules in
+        (refl, rw (ended_ok c.answer.result c.reported-in-Err.result Done c.reported-in-Err.ensures.status c.reported-in-Err.ensures.failed is (λ e. cc)) at c.answer.ensures.device_failed)
+    | inr refused_or ↦ elim refused_or [
+      | inl one ↦
+          let is : c.reported-in-Err.result ≡ Refused = search rules in
+          (refl, rw (ended_ok c.answer.result c.reported-in-Err.result Refused c.reported-in-Err.ensures.status c.reported-in-Err.ensures.failed is (λ e. cc)) at c.answer.ensures.device_failed)
+      | inr two ↦
+          let is : c.reported-in-Err.result ≡ Misused = search rules in
+          (refl, rw (ended_ok c.answer.result c.reported-in-Err.result Misused c.reported-in-Err.ensures.status c.reported-in-Err.ensures.failed is (λ e. cc)) at c.answer.ensures.device_failed)
+    ]
+  ]
+]
+
+pub returns-in-Ok-Returning-clause-borrow_kept : goal.returns-in-Ok-Returning-clause-borrow_kept
+returns-in-Ok-Returning-clause-borrow_kept g c = cause_borrow c.run_command-ended.result _ _ _ _ c.run_command-ended.ensures.device_failed
+
+pub returns-in-Err-clause-borrow_kept : goal.returns-in-Err-clause-borrow_kept
+returns-in-Err-clause-borrow_kept g c =
+    let read = (g.R.Input.state c.args.input.now).failures in
+    cause_borrow c.answer.result read read _ _ (write_cause c.answer.result read read _ _ c.answer.ensures.failed refl c.answer.ensures.device_failed)
