@@ -7,6 +7,7 @@ use Rattle.config_image.specs.Image.{Group}
 use Rattle.command_line.specs.declared.ending.Status.{Status}
 use Rattle.command_line.specs.declared.ending.Status.TheVariants.{Done, Failed, Refused}
 use Rattle.control_line.specs.Rules.{IsConfigOf}
+use Rattle.control_rules.specs.declared.ask_failure.AskFailure.{AskFailure}
 use Rattle.control_rules.specs.declared.loading.Loaded.{Loaded}
 use Rattle.command_line.specs.Ending.{AppendsBeginning, line_of}
 use Rattle.command_line.specs.declared.ending.Failure.{Failure}
@@ -51,7 +52,7 @@ pub loaded_into : (before after : ClientValue) (switch : Peer) (text : List ℕ)
     → Loads text (words_config config) before after loaded → LoadsInto switch text config loaded
 loaded_into before after switch text config loaded is loads = record { before = before; after = after; is_client = is; loads = loads }
 
-pub loaded_so : (before after : ClientValue) (switch : Peer) (text : List ℕ) (config : List Group) (result : Result Loaded Failure) → before.switch ≡ switch
+pub loaded_so : (before after : ClientValue) (switch : Peer) (text : List ℕ) (config : List Group) (result : Result Loaded AskFailure) → before.switch ≡ switch
     → IfOk result (Loads text (words_config config) before after) → IfOk result (LoadsInto switch text config)
 loaded_so before after switch text config (Ok loaded) is loads = loaded_into before after switch text config loaded is loads
 loaded_so before after switch text config (Err why) is loads = tt
@@ -139,6 +140,10 @@ nothing_told old mid new (Err why) status is same failed untold done = absurd (n
 pub done_is_good : (ended : Result Status Failure) → IfOk ended (λ given. given ≡ Done) → IfOk ended IsDoneOrRefused
 done_is_good (Ok given) is = inl is
 done_is_good (Err why) is = tt
+
+pub good_never_failed : (ended : Result Status Failure) → IfOk ended IsDoneOrRefused → IfOk ended (λ given. given ≢ Failed)
+good_never_failed (Ok given) good = never_failed given good
+good_never_failed (Err why) good = tt
 
 -- ---- `load`
 

@@ -26,3 +26,5 @@ pub use Rattle.counter_text.specs.Growth
 pub use Rattle.counter_text.specs.Metrics
 pub use Rattle.counter_text.specs.Screen
 pub use Rattle.counter_text.specs.Sockets
+pub use Rattle.command_streams.specs.Endings
+pub use Rattle.command_streams.specs.Failures

@@ -63,13 +63,17 @@ pub record WritesReplies (control : Text) (all : Bool) (words : List Text) (inpu
   pub is_address : SpellsControlAddress control address
   pub tells_all : Tells all (peer_of address) (lines_told words input) before after told_before told_after refused
 
--- `tell` failed: the refusal of an address could not be written, or it stopped after some requests
-pub data EndsInTellFailure (control : Text) (all : Bool) (words : List Text) (input before after told_before told_after : Option (List ℕ)) : Type 0 where
+-- `tell` failed so: the refusal of an address could not be written, or it stopped after some requests
+pub data TellFails (control : Text) (all : Bool) (words : List Text) (input before after told_before told_after : Option (List ℕ)) : Failure → Type 0 where
   unwritten_refusal : IsNoControlAddress control →
-      AppendsBeginning told_before told_after (line_of failure.WriteFailed) → EndsInTellFailure control all words input before after told_before told_after
+      AppendsBeginning told_before told_after (line_of failure.WriteFailed) → TellFails control all words input before after told_before told_after failure.WriteFailed
   stopped : (address : ControlAddress) (why : Failure) (told_then : Option (List ℕ)) → SpellsControlAddress control address →
       StopsTelling all why (peer_of address) (lines_told words input) before after told_before told_then → IsTold (Some control) why told_then told_after →
-      EndsInTellFailure control all words input before after told_before told_after
+      TellFails control all words input before after told_before told_after why
+
+abbrev pub EndsInTellFailure : Text → Bool → List Text → (input before after told_before told_after : Option (List ℕ)) → Type 0
+EndsInTellFailure control all words input before after told_before told_after =
+    (why : Failure) × TellFails control all words input before after told_before told_after why
 
 -- `tell` is given a text that is no address, and the refusal of that was written; or a reply is a refusal, all replies were written, and
 -- those that are refusals were shown on standard error

@@ -6,7 +6,10 @@ ghost use Rattle.fault_code.specs.Code.{code_text};
 ghost use Rattle.control_client.specs.Wire.{peer_of};
 ghost use Rattle.control_rules.specs.Drain.{drain_code};
 ghost use Rattle.control_rules.specs.declared.draining.Drained.{Drained as DrainedValue};
+ghost use Rattle.command_streams.specs.Endings.{EndsByCause};
+ghost use Rattle.command_streams.specs.Failures.{OutputFails};
 ghost use Rattle.command_operating.specs.Draining.{DrainsFrom, NamesMember, NamesNoMember, RefusesDrain, WritesDrain, drained_line, drained_status};
+ghost use Rattle.command_operating.specs.Reported.{IsTold};
 ghost use Rattle.command_operating.specs.Showing.{EndsInRulesFailure};
 
 use crate::loading::version_line;
@@ -15,8 +18,9 @@ use crate::reaching::client_of;
 use crate::refuse_address;
 use crate::reporting::reported;
 use command_line::{ControlAddress, Failure, Status};
+use command_streams::CountedWrite;
 use control_client::Reach;
-use control_rules::{DrainRefusal, Drained, drain};
+use control_rules::{AskFailure, DrainRefusal, Drained, drain};
 use ipv4_fields::{Endpoint, read_number};
 use std::alloc::{AllocError, Global};
 use std::cell::Cell;
@@ -51,11 +55,16 @@ fn refusal_line(alloc: Global, refusal: DrainRefusal) -> Result<String, AllocErr
 }
 
 // Prints how the draining ended.
-fn print_drained<W: Write>(alloc: Global, drained: &Drained, out: &mut W) -> Result<Status, Failure>
+fn print_drained<W: CountedWrite>(
+    alloc: Global,
+    drained: &Drained,
+    out: &mut W,
+) -> Result<Status, Failure>
     ensures status { IfOk result (λ status. status ≡ drained_status drained.now) }
     ensures done_or_refused { IfOk result (λ status. (status ≡ Status.Done) ⊎ (status ≡ Status.Refused)) }
     ensures printed { OnOk result (Appends (W.contents out.old) (W.contents out.new) (drained_line drained.now ++ codes "\n")) }
     ensures unwritten { IfErr result (λ failure. failure ≢ Failure.WriteFailed → out.new ≡ out.old) }
+    ensures device_failed { OutputFails result (W.failures out.old) (W.failures out.new) }
 {
     match drained {
         Drained::Published { version } => {
@@ -81,7 +90,7 @@ fn drained_from<R: Net + Clock>(
     alloc: Global,
     reach: Reach<'_>,
     member: (Endpoint, u32),
-) -> Result<Drained, Failure>
+) -> Result<Drained, AskFailure>
     ensures drained { IfOk result (DrainsFrom (peer_of reach.entry.address) member.0 member.1) }
 {
     let mut client = client_of(rt, alloc, reach)?;
@@ -89,7 +98,7 @@ fn drained_from<R: Net + Clock>(
 }
 
 // Drains a member of a switch, and prints how that ended.
-fn drain_printed<R: Net + Clock, W: Write>(
+fn drain_printed<R: Net + Clock, W: CountedWrite>(
     rt: &R,
     alloc: Global,
     reach: Reach<'_>,
@@ -101,13 +110,14 @@ fn drain_printed<R: Net + Clock, W: Write>(
         × Appends (W.contents out.old) (W.contents out.new) (drained_line drained ++ codes "\n")) }
     ensures done_or_refused { IfOk result (λ status. (status ≡ Status.Done) ⊎ (status ≡ Status.Refused)) }
     ensures unwritten { IfErr result (λ failure. failure ≢ Failure.WriteFailed → out.new ≡ out.old) }
+    ensures device_failed { OutputFails result (W.failures out.old) (W.failures out.new) }
 {
     let drained = drained_from(rt, alloc, reach, member)?;
     print_drained(alloc, &drained, out)
 }
 
 /// Runs `drain`.
-pub fn run_drain<R: Net + Clock, W: Write, E: Write>(
+pub fn run_drain<R: Net + Clock, W: CountedWrite, E: Write>(
     rt: &R,
     alloc: Global,
     draining: Draining<'_>,
@@ -122,6 +132,8 @@ pub fn run_drain<R: Net + Clock, W: Write, E: Write>(
     ensures never_misused { result ≡ Status.Misused → ⊥ }
     ensures failed { result ≡ Status.Failed
         → EndsInRulesFailure (Some draining.entry.control.now) (W.contents out.old) (W.contents out.new) (E.contents errs.old) (E.contents errs.new) }
+    ensures device_failed { EndsByCause (λ cause. IsTold (Some draining.entry.control.now) cause (E.contents errs.old) (E.contents errs.new)) result
+        (W.failures out.old) (W.failures out.new) }
 {
     let Draining {
         control,

@@ -4,10 +4,11 @@
 //! Each is a function from the command's arguments to its exit status. `opening` also reads the rules file of `serve`.
 #![tactic(auto)]
 
-ghost use Rattle.std.specs.Prelude.{◌≡◌, OnOk, codes};
+ghost use Rattle.std.specs.Prelude.{◌≡◌, codes};
 ghost use Rattle.std.specs.Io.KnownBytes.{Appends};
 ghost use Rattle.command_line.specs.Ending.{AppendsBeginning, line_of};
 ghost use Rattle.command_line.specs.declared.ending.Failure.TheVariants as failure;
+ghost use Rattle.command_streams.specs.Endings.{EndsByCause};
 
 mod draining;
 mod loading;
@@ -21,34 +22,28 @@ mod showing;
 mod telling;
 mod watching;
 
-use command_line::{Failure, Status};
+use command_line::Status;
+use command_streams::{CountedWrite, write_through};
 pub use draining::{Draining, run_drain};
 pub use loading::{Loading, run_load};
 pub use measuring::run_metrics;
 pub use rules_file::opening;
 pub use showing::run_rules;
-use std::io;
 use std::io::Write;
 pub use telling::run_tell;
 pub use watching::{Watching, run_top};
 
-fn write_refusal<W: Write>(out: &mut W) -> io::Result<()>
-    ensures { OnOk result (Appends (W.contents out.old) (W.contents out.new) (codes "refused C1\n")) }
-{
-    out.write_all(b"refused C1\n".as_slice())?;
-    out.flush()
-}
-
 /// Refuses a text that is no address: prints `refused C1`.
-pub fn refuse_address<W: Write, E: Write>(out: &mut W, errs: &mut E) -> Status
+pub fn refuse_address<W: CountedWrite, E: Write>(out: &mut W, errs: &mut E) -> Status
     ensures refused { result ≡ Status.Refused → Appends (W.contents out.old) (W.contents out.new) (codes "refused C1\n") }
     ensures no_errors { result ≡ Status.Refused → errs.new ≡ errs.old }
     ensures never_done { result ≡ Status.Done → ⊥ }
     ensures never_misused { result ≡ Status.Misused → ⊥ }
     ensures failed { result ≡ Status.Failed → AppendsBeginning (E.contents errs.old) (E.contents errs.new) (line_of failure.WriteFailed) }
+    ensures device_failed { EndsByCause (λ cause. cause ≡ failure.WriteFailed) result (W.failures out.old) (W.failures out.new) }
 {
-    match write_refusal(out) {
+    match write_through(b"refused C1\n".as_slice(), out) {
         Ok(()) => Status::Refused,
-        Err(_) => Failure::WriteFailed.report(errs),
+        Err(failure) => failure.report(errs),
     }
 }

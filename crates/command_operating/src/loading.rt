@@ -7,13 +7,16 @@ ghost use Rattle.control_client.specs.Wire.{peer_of};
 ghost use Rattle.control_line.specs.Rules.{IsConfigOf};
 ghost use Rattle.command_explain.specs.Meaning.{file_line};
 ghost use Rattle.command_line.specs.ControlAddress.{SpellsControlAddress};
-ghost use Rattle.command_line.specs.Ending.{AppendsBeginning};
+ghost use Rattle.command_line.specs.Ending.{AppendsBeginning, line_of};
 ghost use Rattle.command_line.specs.declared.ending.Failure.TheVariants as failure;
+ghost use Rattle.command_streams.specs.Endings.{EndsByCause};
+ghost use Rattle.command_streams.specs.Failures.{OutputFails};
 ghost use Rattle.command_operating.specs.Opening.{RefusesRules};
+ghost use Rattle.command_operating.specs.Reported.{IsTold};
 ghost use Rattle.command_operating.specs.Showing.{AreChangesTo, EndsInRulesFailure, IsNoSwitch, LoadsInto, RefusesLoad, ShowsFileRefusal, WritesLoad, loaded_line, loaded_status, measures_line, version_line};
 ghost use Rattle.command_operating.specs.body.Asked.{IsAsked};
 
-use crate::printing::{print_line, print_text};
+use crate::printing::print_line;
 use crate::reaching::client_of;
 use crate::refuse_address;
 use crate::refused::write_flushed;
@@ -21,9 +24,10 @@ use crate::reporting::reported;
 use crate::rules_file::{RulesFile, open_file};
 use command_explain::{file_fault_text, shown_code};
 use command_line::{ControlAddress, Failure, Status};
+use command_streams::{CountedWrite, write_through};
 use control_client::{Reach, Wire};
 use control_line::Reply;
-use control_rules::{Client, Loaded, differences, load};
+use control_rules::{AskFailure, Client, Loaded, differences, load};
 use member_group::Config;
 use std::alloc::Global;
 use std::cell::Cell;
@@ -78,7 +82,7 @@ pub(crate) fn version_line(version: u64, rest: &str) -> Reply
 }
 
 // Prints the lines that lead from the rules of a client's switch to a configuration.
-fn print_differences<D: Wire + Drop, W: Write>(
+fn print_differences<D: Wire + Drop, W: CountedWrite>(
     client: &mut Client<D>,
     config: &Config,
     out: &mut W,
@@ -87,16 +91,17 @@ fn print_differences<D: Wire + Drop, W: Write>(
     ensures shown { OnOk result ((changes : List ℕ) × AreChangesTo client.old.switch config.now changes
         × Appends (W.contents out.old) (W.contents out.new) changes) }
     ensures unwritten { IfErr result (λ failure. failure ≢ Failure.WriteFailed → out.new ≡ out.old) }
+    ensures device_failed { OutputFails result (W.failures out.old) (W.failures out.new) }
 {
     let Some(changes) = differences(client, config)? else {
         return Err(Failure::RulesChanged);
     };
-    print_text(&changes, out)?;
+    write_through(&changes, out)?;
     Ok(Status::Done)
 }
 
 // The same for the switch at an address.
-fn print_changes<R: Net + Clock, W: Write>(
+fn print_changes<R: Net + Clock, W: CountedWrite>(
     rt: &R,
     alloc: Global,
     reach: Reach<'_>,
@@ -107,12 +112,13 @@ fn print_changes<R: Net + Clock, W: Write>(
     ensures shown { OnOk result ((changes : List ℕ) × AreChangesTo (peer_of reach.entry.address) config.now changes
         × Appends (W.contents out.old) (W.contents out.new) changes) }
     ensures unwritten { IfErr result (λ failure. failure ≢ Failure.WriteFailed → out.new ≡ out.old) }
+    ensures device_failed { OutputFails result (W.failures out.old) (W.failures out.new) }
 {
     let mut client = client_of(rt, alloc, reach)?;
     print_differences(&mut client, config, out)
 }
 
-fn show_changes<R: Net + Clock, W: Write, E: Write>(
+fn show_changes<R: Net + Clock, W: CountedWrite, E: Write>(
     rt: &R,
     alloc: Global,
     asked: (&str, Reach<'_>),
@@ -127,6 +133,8 @@ fn show_changes<R: Net + Clock, W: Write, E: Write>(
     ensures no_errors { result ≡ Status.Done → errs.new ≡ errs.old }
     ensures failed { result ≡ Status.Failed
         → EndsInRulesFailure (Some asked.entry.0.now) (W.contents out.old) (W.contents out.new) (E.contents errs.old) (E.contents errs.new) }
+    ensures device_failed { EndsByCause (λ cause. IsTold (Some asked.entry.0.now) cause (E.contents errs.old) (E.contents errs.new)) result
+        (W.failures out.old) (W.failures out.new) }
 {
     let (control, reach) = asked;
     let ended = print_changes(rt, alloc, reach, config, out);
@@ -134,11 +142,12 @@ fn show_changes<R: Net + Clock, W: Write, E: Write>(
 }
 
 // Prints how the replacing of the rules ended.
-fn print_loaded<W: Write>(loaded: &Loaded, out: &mut W) -> Result<Status, Failure>
+fn print_loaded<W: CountedWrite>(loaded: &Loaded, out: &mut W) -> Result<Status, Failure>
     ensures status { IfOk result (λ status. status ≡ loaded_status loaded.now) }
     ensures done_or_refused { IfOk result (λ status. (status ≡ Status.Done) ⊎ (status ≡ Status.Refused)) }
     ensures printed { OnOk result (Appends (W.contents out.old) (W.contents out.new) (loaded_line loaded.now ++ codes "\n")) }
     ensures unwritten { IfErr result (λ failure. failure ≢ Failure.WriteFailed → out.new ≡ out.old) }
+    ensures device_failed { OutputFails result (W.failures out.old) (W.failures out.new) }
 {
     match loaded {
         Loaded::Unchanged { version } => {
@@ -163,7 +172,7 @@ fn replaced<R: Net + Clock>(
     alloc: Global,
     reach: Reach<'_>,
     file: &RulesFile,
-) -> Result<Loaded, Failure>
+) -> Result<Loaded, AskFailure>
     requires { IsConfigOf file.now.text.items file.now.config }
     ensures loaded { IfOk result (LoadsInto (peer_of reach.entry.address) file.now.text.items file.now.config) }
 {
@@ -198,7 +207,7 @@ fn show_refusal<E: Write>(alloc: Global, name: &str, reply: &[u8], errs: &mut E)
 }
 
 // Makes the rules of a switch those of the file of this name, and prints how that ended.
-fn print_replaced<R: Net + Clock, W: Write, E: Write>(
+fn print_replaced<R: Net + Clock, W: CountedWrite, E: Write>(
     rt: &R,
     alloc: Global,
     reach: Reach<'_>,
@@ -214,6 +223,7 @@ fn print_replaced<R: Net + Clock, W: Write, E: Write>(
     ensures no_errors { IfOk result (λ status. status ≡ Status.Done → errs.new ≡ errs.old) }
     ensures unshown { OnErr result (errs.new ≡ errs.old) }
     ensures unwritten { IfErr result (λ failure. failure ≢ Failure.WriteFailed → out.new ≡ out.old) }
+    ensures device_failed { OutputFails result (W.failures out.old) (W.failures out.new) }
 {
     let (name, file) = named;
     let loaded = replaced(rt, alloc, reach, file)?;
@@ -227,7 +237,7 @@ fn print_replaced<R: Net + Clock, W: Write, E: Write>(
     }
 }
 
-fn replace<R: Net + Clock, W: Write, E: Write>(
+fn replace<R: Net + Clock, W: CountedWrite, E: Write>(
     rt: &R,
     alloc: Global,
     asked: (&str, Reach<'_>),
@@ -244,6 +254,8 @@ fn replace<R: Net + Clock, W: Write, E: Write>(
     ensures never_misused { result ≡ Status.Misused → ⊥ }
     ensures failed { result ≡ Status.Failed
         → EndsInRulesFailure (Some asked.entry.0.now) (W.contents out.old) (W.contents out.new) (E.contents errs.old) (E.contents errs.new) }
+    ensures device_failed { EndsByCause (λ cause. IsTold (Some asked.entry.0.now) cause (E.contents errs.old) (E.contents errs.new)) result
+        (W.failures out.old) (W.failures out.new) }
 {
     let (control, reach) = asked;
     let ended = print_replaced(rt, alloc, reach, named, out, errs);
@@ -251,7 +263,7 @@ fn replace<R: Net + Clock, W: Write, E: Write>(
 }
 
 // Prints the measures of a file, and asks no switch.
-fn check_file<R: Files, W: Write, E: Write>(
+fn check_file<R: Files, W: CountedWrite, E: Write>(
     rt: &R,
     alloc: Global,
     name: &str,
@@ -265,6 +277,8 @@ fn check_file<R: Files, W: Write, E: Write>(
     ensures never_misused { result ≡ Status.Misused → ⊥ }
     ensures failed { result ≡ Status.Failed
         → EndsInRulesFailure None (W.contents out.old) (W.contents out.new) (E.contents errs.old) (E.contents errs.new) }
+    ensures device_failed { EndsByCause (λ cause. AppendsBeginning (E.contents errs.old) (E.contents errs.new) (line_of cause)) result
+        (W.failures out.old) (W.failures out.new) }
 {
     let file = match open_file(rt, alloc, name, out, errs) {
         Ok(file) => file,
@@ -277,7 +291,7 @@ fn check_file<R: Files, W: Write, E: Write>(
 }
 
 /// Runs `load`.
-pub fn run_load<R: Net + Clock + Files, W: Write, E: Write>(
+pub fn run_load<R: Net + Clock + Files, W: CountedWrite, E: Write>(
     rt: &R,
     alloc: Global,
     loading: Loading<'_>,
@@ -292,6 +306,8 @@ pub fn run_load<R: Net + Clock + Files, W: Write, E: Write>(
     ensures never_misused { result ≡ Status.Misused → ⊥ }
     ensures failed { result ≡ Status.Failed
         → EndsInRulesFailure (option_map (λ address. address.now) loading.entry.control) (W.contents out.old) (W.contents out.new) (E.contents errs.old) (E.contents errs.new) }
+    ensures device_failed { EndsByCause (λ cause. IsTold (option_map (λ address. address.now) loading.entry.control) cause
+        (E.contents errs.old) (E.contents errs.new)) result (W.failures out.old) (W.failures out.new) }
 {
     if loading.check {
         return check_file(rt, alloc, loading.file, out, errs);

@@ -6,19 +6,22 @@ ghost use Rattle.command_line.specs.ControlAddress.{IsNoControlAddress};
 ghost use Rattle.control_client.specs.Wire.{peer_of};
 ghost use Rattle.control_counters.specs.Reading.{AreCountersOf};
 ghost use Rattle.counter_text.specs.Sockets.{AreDropsAt};
+ghost use Rattle.command_streams.specs.Endings.{EndsByCause};
+ghost use Rattle.command_streams.specs.Failures.{OutputFails};
 ghost use Rattle.command_operating.specs.Measured.{AreFrontDrops, IsNoFront, WatchesOf, WritesMetrics};
+ghost use Rattle.command_operating.specs.Reported.{IsTold};
 ghost use Rattle.command_operating.specs.Showing.{EndsInRulesFailure};
 ghost use Rattle.command_operating.specs.body.Front.{IsFrontOf, IsGivenFront, PrintsMetrics};
 
-use crate::printing::print_text;
 use crate::reaching::client_of;
 use crate::refuse_address;
 use crate::reporting::report;
 use crate::rules_file::open_failure;
 use command_line::{ControlAddress, Failure, Status, read_whole};
+use command_streams::{CountedWrite, write_through};
 use control_client::{Reach, Wire};
 use control_counters::read_counters;
-use control_rules::Client;
+use control_rules::{AskFailure, Client};
 use counter_text::{Counters, FrontDrops, drops_at, metrics_text};
 use ipv4_fields::Endpoint;
 use std::alloc::Global;
@@ -32,17 +35,24 @@ use std::time::Clock;
 const SOCKETS: &str = "/proc/net/udp";
 
 // The counters of a client's switch.
-fn read_all<R: Clock, D: Wire + Drop>(rt: &R, client: &mut Client<D>) -> Result<Counters, Failure>
+fn read_all<R: Clock, D: Wire + Drop>(
+    rt: &R,
+    client: &mut Client<D>,
+) -> Result<Counters, AskFailure>
     ensures { IfOk result (λ counters. WatchesOf client.old.switch (λ history told. AreCountersOf history told counters)) }
 {
     match read_counters(rt, client, None)? {
         Some(reading) => Ok(reading.counters),
-        None => Err(Failure::RulesChanged),
+        None => Err(AskFailure::RulesChanged),
     }
 }
 
 // The counters of the switch at an address.
-fn counters_of<R: Net + Clock>(rt: &R, alloc: Global, reach: Reach<'_>) -> Result<Counters, Failure>
+fn counters_of<R: Net + Clock>(
+    rt: &R,
+    alloc: Global,
+    reach: Reach<'_>,
+) -> Result<Counters, AskFailure>
     ensures { IfOk result (λ counters. WatchesOf (peer_of reach.entry.address) (λ history told. AreCountersOf history told counters)) }
 {
     let mut client = client_of(rt, alloc, reach)?;
@@ -53,6 +63,7 @@ fn counters_of<R: Net + Clock>(rt: &R, alloc: Global, reach: Reach<'_>) -> Resul
 fn drops_of<R: Files>(rt: &R, alloc: Global, front: Endpoint) -> Result<FrontDrops, Failure>
     ensures front { IfOk result (λ it. it.front ≡ front) }
     ensures drops { IfOk result (λ it. (table : _) × AreDropsAt it.front table it.drops) }
+    ensures no_output { IfErr result (λ failure. failure ≢ Failure.WriteFailed) }
 {
     let input = match File::open(rt, SOCKETS) {
         Ok(input) => input,
@@ -71,7 +82,8 @@ fn front_drops<R: Files>(
     alloc: Global,
     front: Option<Endpoint>,
 ) -> Result<Option<FrontDrops>, Failure>
-    ensures { IfOk result (IsFrontOf front) }
+    ensures drops { IfOk result (IsFrontOf front) }
+    ensures no_output { IfErr result (λ failure. failure ≢ Failure.WriteFailed) }
 {
     match front {
         None => Ok(None),
@@ -93,7 +105,7 @@ fn front_of(front: Option<&str>) -> Result<Option<Endpoint>, ()>
 }
 
 // Reads everything, and writes it.
-fn print_metrics<R: Net + Clock + Files, W: Write>(
+fn print_metrics<R: Net + Clock + Files, W: CountedWrite>(
     rt: &R,
     alloc: Global,
     reach: Reach<'_>,
@@ -102,15 +114,16 @@ fn print_metrics<R: Net + Clock + Files, W: Write>(
 ) -> Result<(), Failure>
     ensures printed { OnOk result (PrintsMetrics (peer_of reach.entry.address) front (W.contents out.old) (W.contents out.new)) }
     ensures unwritten { IfErr result (λ failure. failure ≢ Failure.WriteFailed → out.new ≡ out.old) }
+    ensures device_failed { OutputFails result (W.failures out.old) (W.failures out.new) }
 {
     let counters = counters_of(rt, alloc, reach)?;
     let drops = front_drops(rt, alloc, front)?;
     let text = metrics_text(alloc, &counters, drops)?;
-    print_text(text.as_bytes(), out)
+    write_through(text.as_bytes(), out)
 }
 
 /// Runs `metrics` with the text of the switch's address, that of a front or none, and the seconds for a reply.
-pub fn run_metrics<R: Net + Clock + Files, W: Write, E: Write>(
+pub fn run_metrics<R: Net + Clock + Files, W: CountedWrite, E: Write>(
     rt: &R,
     alloc: Global,
     addresses: (&str, Option<&str>),
@@ -127,6 +140,8 @@ pub fn run_metrics<R: Net + Clock + Files, W: Write, E: Write>(
     ensures never_misused { result ≡ Status.Misused → ⊥ }
     ensures failed { result ≡ Status.Failed
         → EndsInRulesFailure (Some addresses.entry.0.now) (W.contents out.old) (W.contents out.new) (E.contents errs.old) (E.contents errs.new) }
+    ensures device_failed { EndsByCause (λ cause. IsTold (Some addresses.entry.0.now) cause (E.contents errs.old) (E.contents errs.new)) result
+        (W.failures out.old) (W.failures out.new) }
 {
     let (control, front) = addresses;
     let Some(address) = ControlAddress::from_text(control) else {

@@ -2,27 +2,17 @@
 
 ghost use Rattle.std.specs.Prelude.{◌≡◌, ◌++◌, IfErr, OnOk, codes};
 ghost use Rattle.std.specs.Io.KnownBytes.{Appends};
+ghost use Rattle.command_streams.specs.Failures.{OutputFails};
 
-use command_line::{Failure, write_whole};
-use std::io::Write;
-
-/// Prints a text, and flushes it.
-pub(crate) fn print_text<W: Write>(text: &[u8], out: &mut W) -> Result<(), Failure>
-    ensures printed { OnOk result (Appends (W.contents out.old) (W.contents out.new) text.now) }
-    ensures cause { IfErr result (λ failure. failure ≡ Failure.WriteFailed) }
-{
-    write_whole(text, out)?;
-    match out.flush() {
-        Ok(()) => Ok(()),
-        Err(_) => Err(Failure::WriteFailed),
-    }
-}
+use command_line::Failure;
+use command_streams::{CountedWrite, write_through, write_whole};
 
 /// Prints a line with its LF, and flushes it.
-pub(crate) fn print_line<W: Write>(line: &[u8], out: &mut W) -> Result<(), Failure>
+pub(crate) fn print_line<W: CountedWrite>(line: &[u8], out: &mut W) -> Result<(), Failure>
     ensures printed { OnOk result (Appends (W.contents out.old) (W.contents out.new) (line.now ++ codes "\n")) }
     ensures cause { IfErr result (λ failure. failure ≡ Failure.WriteFailed) }
+    ensures device_failed { OutputFails result (W.failures out.old) (W.failures out.new) }
 {
     write_whole(line, out)?;
-    print_text(b"\n".as_slice(), out)
+    write_through(b"\n".as_slice(), out)
 }

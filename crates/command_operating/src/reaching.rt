@@ -3,9 +3,8 @@
 ghost use Rattle.std.specs.Prelude.{◌≡◌, IfOk};
 ghost use Rattle.control_client.specs.Wire.{peer_of};
 
-use command_line::Failure;
 use control_client::{Reach, SocketWire};
-use control_rules::Client;
+use control_rules::{AskFailure, Client};
 use std::alloc::Global;
 use std::net::Net;
 use std::time::Clock;
@@ -15,9 +14,11 @@ pub(crate) fn client_of<'a, R: Net + Clock>(
     rt: &'a R,
     alloc: Global,
     reach: Reach<'a>,
-) -> Result<Client<SocketWire<'a, R>>, Failure>
+) -> Result<Client<SocketWire<'a, R>>, AskFailure>
     ensures { IfOk result (λ client. client.switch ≡ peer_of reach.entry.address) }
 {
-    let wire = SocketWire::open(rt, alloc, reach)?;
-    Client::new(alloc, wire, reach.peer())
+    match SocketWire::open(rt, alloc, reach) {
+        Ok(wire) => Client::new(alloc, wire, reach.peer()),
+        Err(failure) => Err(AskFailure::of(failure)),
+    }
 }

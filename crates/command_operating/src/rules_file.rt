@@ -8,11 +8,14 @@ ghost use Rattle.command_line.specs.Ending.{AppendsBeginning, line_of};
 ghost use Rattle.command_line.specs.declared.ending.Failure.TheVariants as failure;
 ghost use Rattle.control_line.specs.Reason.{refusal_text};
 ghost use Rattle.control_line.specs.Rules.{IsConfigOf};
+ghost use Rattle.command_streams.specs.Endings.{EndsByCause};
+ghost use Rattle.command_streams.specs.Failures.{OutputFails};
 ghost use Rattle.command_operating.specs.Opening.{EndsUnread, IsMadeFrom, IsOpening, RefusesRules, file_refusal_text, of_line};
 ghost use Rattle.command_operating.specs.body.Reading.{IsReadOf};
 
 use command_explain::{FaultPlace, file_fault_text, line_fault_text};
 use command_line::{Failure, Status, read_whole, write_whole};
+use command_streams::{CountedWrite, write_through};
 use control_line::{BLOCK_LIMIT, Reason, Reply, RulesFault, fault_column, line_at, rules};
 use fault_code::Code;
 use member_group::Config;
@@ -42,13 +45,18 @@ fn refusal(line: Option<u32>, reason: Reason) -> Reply
     reply
 }
 
-fn write_file_refusal<W: Write>(line: Option<u32>, reason: Reason, out: &mut W) -> io::Result<()>
-    ensures { OnOk result (Appends (W.contents out.old) (W.contents out.new) (file_refusal_text line reason)) }
+fn write_file_refusal<W: CountedWrite>(
+    line: Option<u32>,
+    reason: Reason,
+    out: &mut W,
+) -> Result<(), Failure>
+    ensures written { OnOk result (Appends (W.contents out.old) (W.contents out.new) (file_refusal_text line reason)) }
+    ensures failed { IfErr result (λ failure. failure ≡ Failure.WriteFailed) }
+    ensures device_failed { OutputFails result (W.failures out.old) (W.failures out.new) }
 {
     let mut reply = refusal(line, reason);
     reply.push("\n");
-    out.write_all(reply.bytes())?;
-    out.flush()
+    write_through(reply.bytes(), out)
 }
 
 // The text for people about a refused rules file of this name and text.
@@ -89,7 +97,7 @@ fn show_fault<E: Write>(
 }
 
 // Refuses a rules file of this name and text: a line for programs, and then the place for people.
-fn refuse_file<W: Write, E: Write>(
+fn refuse_file<W: CountedWrite, E: Write>(
     alloc: Global,
     source: (&str, &[u8]),
     line: Option<u32>,
@@ -101,13 +109,14 @@ fn refuse_file<W: Write, E: Write>(
     ensures never_done { result ≡ Status.Done → ⊥ }
     ensures never_misused { result ≡ Status.Misused → ⊥ }
     ensures failed { result ≡ Status.Failed → AppendsBeginning (E.contents errs.old) (E.contents errs.new) (line_of failure.WriteFailed) }
+    ensures device_failed { EndsByCause (λ cause. cause ≡ failure.WriteFailed) result (W.failures out.old) (W.failures out.new) }
 {
     match write_file_refusal(line, reason, out) {
         Ok(()) => {
             show_fault(alloc, source, line, reason, errs);
             Status::Refused
         }
-        Err(_) => Failure::WriteFailed.report(errs),
+        Err(failure) => failure.report(errs),
     }
 }
 
@@ -122,7 +131,7 @@ fn read_text<I: Read + Drop>(alloc: Global, input: I) -> Result<Vec<u8>, Failure
 
 // Reads a rules file of this name. If it makes no configuration, writes the cause, and returns the exit status.
 #[tactic(auto, using(crate::proofs::OpeningLemmas::made_of, crate::proofs::OpeningLemmas::refused_of, crate::proofs::OpeningLemmas::charge_within, crate::proofs::OpeningLemmas::not_read, crate::proofs::OpeningLemmas::not_written))]
-fn file_of<I: Read + Drop, W: Write, E: Write>(
+fn file_of<I: Read + Drop, W: CountedWrite, E: Write>(
     alloc: Global,
     file: &str,
     input: I,
@@ -140,6 +149,9 @@ fn file_of<I: Read + Drop, W: Write, E: Write>(
     ensures never_misused { IfErr result (λ status. status ≡ Status.Misused → ⊥) }
     ensures failed { IfErr result (λ status. status ≡ Status.Failed
         → EndsUnread (W.contents out.old) (W.contents out.new) (E.contents errs.old) (E.contents errs.new)) }
+    ensures device_failed { IfErr result (λ status.
+        EndsByCause (λ cause. AppendsBeginning (E.contents errs.old) (E.contents errs.new) (line_of cause)) status
+        (W.failures out.old) (W.failures out.new)) }
 {
     let text = match read_text(alloc, input) {
         Ok(text) => text,
@@ -167,7 +179,7 @@ pub(crate) fn open_failure(error: &io::Error) -> Failure
 }
 
 /// Opens and reads a rules file of this name. If the file makes no configuration, writes the cause, and returns the exit status.
-pub(crate) fn open_file<R: Files, W: Write, E: Write>(
+pub(crate) fn open_file<R: Files, W: CountedWrite, E: Write>(
     rt: &R,
     alloc: Global,
     name: &str,
@@ -183,6 +195,9 @@ pub(crate) fn open_file<R: Files, W: Write, E: Write>(
     ensures never_misused { IfErr result (λ status. status ≡ Status.Misused → ⊥) }
     ensures failed { IfErr result (λ status. status ≡ Status.Failed
         → EndsUnread (W.contents out.old) (W.contents out.new) (E.contents errs.old) (E.contents errs.new)) }
+    ensures device_failed { IfErr result (λ status.
+        EndsByCause (λ cause. AppendsBeginning (E.contents errs.old) (E.contents errs.new) (line_of cause)) status
+        (W.failures out.old) (W.failures out.new)) }
 {
     match File::open(rt, name) {
         Ok(input) => file_of(alloc, name, input, out, errs),
@@ -192,7 +207,7 @@ pub(crate) fn open_file<R: Files, W: Write, E: Write>(
 
 /// Returns the configuration that a switch begins with: that of the rules file of this name, or one without groups. If there is
 /// none, writes the cause, and returns the exit status.
-pub fn opening<R: Files, W: Write, E: Write>(
+pub fn opening<R: Files, W: CountedWrite, E: Write>(
     rt: &R,
     alloc: Global,
     file: Option<&str>,
@@ -209,6 +224,9 @@ pub fn opening<R: Files, W: Write, E: Write>(
     ensures never_misused { IfErr result (λ status. status ≡ Status.Misused → ⊥) }
     ensures failed { IfErr result (λ status. status ≡ Status.Failed
         → IsSome file.entry × EndsUnread (W.contents out.old) (W.contents out.new) (E.contents errs.old) (E.contents errs.new)) }
+    ensures device_failed { IfErr result (λ status.
+        EndsByCause (λ cause. AppendsBeginning (E.contents errs.old) (E.contents errs.new) (line_of cause)) status
+        (W.failures out.old) (W.failures out.new)) }
 {
     let Some(name) = file else {
         return Ok(Config::new(alloc));

@@ -3,16 +3,18 @@
 ghost use Rattle.std.specs.Prelude.{◌≡◌, ◌⊎◌, IfOk, Some, codes};
 ghost use Rattle.std.specs.Io.KnownBytes.{Appends};
 ghost use Rattle.command_line.specs.ControlAddress.{IsNoControlAddress};
+ghost use Rattle.command_streams.specs.Endings.{EndsByCause};
+ghost use Rattle.command_operating.specs.Reported.{IsTold};
 ghost use Rattle.command_operating.specs.Showing.{EndsInRulesFailure, IsRulesOf, WritesRules};
 ghost use Rattle.control_client.specs.Wire.{peer_of};
 
-use crate::printing::print_text;
 use crate::reaching::client_of;
 use crate::refuse_address;
 use crate::reporting::report;
 use command_line::{ControlAddress, Failure, Status};
+use command_streams::{CountedWrite, write_through};
 use control_client::{Reach, Wire};
-use control_rules::{Client, read_rules};
+use control_rules::{AskFailure, Client, read_rules};
 use std::alloc::Global;
 use std::cell::Cell;
 use std::io::Write;
@@ -20,17 +22,17 @@ use std::net::Net;
 use std::time::Clock;
 
 // The rules of a client's switch, as a rules file.
-fn rules_text<D: Wire + Drop>(client: &mut Client<D>) -> Result<Vec<u8>, Failure>
+fn rules_text<D: Wire + Drop>(client: &mut Client<D>) -> Result<Vec<u8>, AskFailure>
     ensures { IfOk result (λ text. IsRulesOf client.old.switch text.items) }
 {
     match read_rules(client)? {
         Some(rules) => Ok(rules.text),
-        None => Err(Failure::RulesChanged),
+        None => Err(AskFailure::RulesChanged),
     }
 }
 
 // The same of the switch at an address.
-fn rules_of<R: Net + Clock>(rt: &R, alloc: Global, reach: Reach<'_>) -> Result<Vec<u8>, Failure>
+fn rules_of<R: Net + Clock>(rt: &R, alloc: Global, reach: Reach<'_>) -> Result<Vec<u8>, AskFailure>
     ensures { IfOk result (λ text. IsRulesOf (peer_of reach.entry.address) text.items) }
 {
     let mut client = client_of(rt, alloc, reach)?;
@@ -38,7 +40,7 @@ fn rules_of<R: Net + Clock>(rt: &R, alloc: Global, reach: Reach<'_>) -> Result<V
 }
 
 /// Runs `rules` with the text of the switch's address, and the seconds for a reply.
-pub fn run_rules<R: Net + Clock, W: Write, E: Write>(
+pub fn run_rules<R: Net + Clock, W: CountedWrite, E: Write>(
     rt: &R,
     alloc: Global,
     control: &str,
@@ -53,6 +55,8 @@ pub fn run_rules<R: Net + Clock, W: Write, E: Write>(
     ensures never_misused { result ≡ Status.Misused → ⊥ }
     ensures failed { result ≡ Status.Failed
         → EndsInRulesFailure (Some control.now) (W.contents out.old) (W.contents out.new) (E.contents errs.old) (E.contents errs.new) }
+    ensures device_failed { EndsByCause (λ cause. IsTold (Some control.now) cause (E.contents errs.old) (E.contents errs.new)) result
+        (W.failures out.old) (W.failures out.new) }
 {
     let Some(address) = ControlAddress::from_text(control) else {
         return refuse_address(out, errs);
@@ -65,9 +69,9 @@ pub fn run_rules<R: Net + Clock, W: Write, E: Write>(
     };
     let text = match rules_of(rt, alloc, reach) {
         Ok(text) => text,
-        Err(failure) => return report(alloc, failure, control, reach, errs),
+        Err(failure) => return report(alloc, Failure::from(failure), control, reach, errs),
     };
-    match print_text(&text, out) {
+    match write_through(&text, out) {
         Ok(()) => Status::Done,
         Err(failure) => report(alloc, failure, control, reach, errs),
     }

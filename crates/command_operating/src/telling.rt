@@ -3,7 +3,9 @@
 ghost use Rattle.std.specs.Prelude.{◌≡◌, ◌⊎◌, IfErr, IfOk, Some, false, map, string_bytes};
 ghost use Rattle.std.specs.List.{list_any};
 ghost use Rattle.command_line.specs.ControlAddress.{IsNoControlAddress};
-ghost use Rattle.command_operating.specs.Telling.{EndsInTellFailure, StopsTelling, Tells, WritesReplies, has_space, is_one_line, is_whole, joined, lines_of_words, lines_told};
+ghost use Rattle.command_streams.specs.Endings.{EndsByCause};
+ghost use Rattle.command_streams.specs.Failures.{OutputFails};
+ghost use Rattle.command_operating.specs.Telling.{EndsInTellFailure, StopsTelling, TellFails, Tells, WritesReplies, has_space, is_one_line, is_whole, joined, lines_of_words, lines_told};
 ghost use Rattle.command_operating.specs.Telling.{IsToldRefusal};
 ghost use Rattle.control_client.specs.Wire.{peer_of};
 ghost use Rattle.control_line.specs.Answer.{numbered};
@@ -12,6 +14,7 @@ use crate::refuse_address;
 use crate::refused::Meanings;
 use crate::reporting::report;
 use command_line::{ControlAddress, Failure, Status};
+use command_streams::CountedWrite;
 use control_client::{
     InputLines, Lines, Reach, WordLines, tell_change_over_socket, tell_over_socket,
 };
@@ -22,7 +25,7 @@ use std::net::Net;
 use std::time::Clock;
 
 // Sends lines, all as one change or not.
-fn tell_lines<R: Net + Clock, L: Lines, W: Write, E: Write>(
+fn tell_lines<R: Net + Clock, L: Lines, W: CountedWrite, E: Write>(
     rt: &R,
     alloc: Global,
     way: (Reach<'_>, bool),
@@ -35,6 +38,7 @@ fn tell_lines<R: Net + Clock, L: Lines, W: Write, E: Write>(
     ensures untold { IfOk result (λ refused. refused ≡ false → errs.new ≡ errs.old) }
     ensures stopped { IfErr result (λ fault. StopsTelling way.entry.1 fault (peer_of way.entry.0.address) (L.coming lines.old)
         (W.contents out.old) (W.contents out.new) (E.contents errs.old) (E.contents errs.new)) }
+    ensures device_failed { OutputFails result (W.failures out.old) (W.failures out.new) }
 {
     let (reach, all) = way;
     let meanings = Meanings { alloc };
@@ -107,7 +111,7 @@ fn joined(alloc: Global, words: &[&str]) -> Result<String, AllocError>
 }
 
 // Sends words: as one line, or a line each.
-fn tell_words<R: Net + Clock, W: Write, E: Write>(
+fn tell_words<R: Net + Clock, W: CountedWrite, E: Write>(
     rt: &R,
     alloc: Global,
     way: (Reach<'_>, bool),
@@ -121,6 +125,7 @@ fn tell_words<R: Net + Clock, W: Write, E: Write>(
     ensures stopped { IfErr result (λ fault. StopsTelling way.entry.1 fault (peer_of way.entry.0.address)
         (Some (numbered 1 (lines_of_words (map (λ word. word.now) words.now))))
         (W.contents out.old) (W.contents out.new) (E.contents errs.old) (E.contents errs.new)) }
+    ensures device_failed { OutputFails result (W.failures out.old) (W.failures out.new) }
 {
     if !is_one_line(words) {
         return tell_lines(rt, alloc, way, &mut WordLines::new(words), out, errs);
@@ -131,7 +136,7 @@ fn tell_words<R: Net + Clock, W: Write, E: Write>(
 }
 
 // Sends the words, or if there are none the lines of the input.
-fn tell_words_or_input<R: Net + Clock, I: Read + Drop, W: Write, E: Write>(
+fn tell_words_or_input<R: Net + Clock, I: Read + Drop, W: CountedWrite, E: Write>(
     rt: &R,
     alloc: Global,
     way: (Reach<'_>, bool),
@@ -146,6 +151,7 @@ fn tell_words_or_input<R: Net + Clock, I: Read + Drop, W: Write, E: Write>(
     ensures stopped { IfErr result (λ fault. StopsTelling way.entry.1 fault (peer_of way.entry.0.address)
         (lines_told (map (λ word. word.now) words.now) (I.remaining input))
         (W.contents out.old) (W.contents out.new) (E.contents errs.old) (E.contents errs.new)) }
+    ensures device_failed { OutputFails result (W.failures out.old) (W.failures out.new) }
 {
     if !words.is_empty() {
         return tell_words(rt, alloc, way, words, out, errs);
@@ -158,7 +164,7 @@ fn tell_words_or_input<R: Net + Clock, I: Read + Drop, W: Write, E: Write>(
 
 /// Runs `tell` with the text of the switch's address, the seconds for a reply, and whether all lines are one change. The lines are
 /// those of the words, or those of the input if there are no words.
-pub fn run_tell<R: Net + Clock, I: Read + Drop, W: Write, E: Write>(
+pub fn run_tell<R: Net + Clock, I: Read + Drop, W: CountedWrite, E: Write>(
     rt: &R,
     alloc: Global,
     switch: (&str, u64, bool),
@@ -178,6 +184,8 @@ pub fn run_tell<R: Net + Clock, I: Read + Drop, W: Write, E: Write>(
     ensures failed { result ≡ Status.Failed
         → EndsInTellFailure switch.entry.0.now switch.entry.2 (map (λ word. word.now) words.now) (I.remaining input)
         (W.contents out.old) (W.contents out.new) (E.contents errs.old) (E.contents errs.new) }
+    ensures device_failed { EndsByCause (TellFails switch.entry.0.now switch.entry.2 (map (λ word. word.now) words.now) (I.remaining input)
+        (W.contents out.old) (W.contents out.new) (E.contents errs.old) (E.contents errs.new)) result (W.failures out.old) (W.failures out.new) }
 {
     let (control, seconds, all) = switch;
     let Some(address) = ControlAddress::from_text(control) else {

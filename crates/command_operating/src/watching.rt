@@ -7,17 +7,20 @@ ghost use Rattle.control_client.specs.Wire.{peer_of};
 ghost use Rattle.control_counters.specs.Reading.{AreCountersOf, IsKnown};
 ghost use Rattle.control_counters.specs.Watching.{Watches};
 ghost use Rattle.counter_text.specs.Screen.{screen_text};
+ghost use Rattle.command_streams.specs.Endings.{EndsByCause};
+ghost use Rattle.command_streams.specs.Failures.{OutputFails};
 ghost use Rattle.command_operating.specs.Measured.{EndsInTopFailure, WritesScreens, WritesTop, clear_text};
+ghost use Rattle.command_operating.specs.Reported.{IsTold};
 ghost use Rattle.command_operating.specs.body.Screens.{Shows, ShowsFewer, ShowsMore};
 
-use crate::printing::print_text;
 use crate::reaching::client_of;
 use crate::refuse_address;
 use crate::reporting::report;
-use command_line::{ControlAddress, Failure, Status, write_whole};
+use command_line::{ControlAddress, Failure, Status};
+use command_streams::{CountedWrite, write_through, write_whole};
 use control_client::{Reach, Wire};
 use control_counters::{Reading, read_counters};
-use control_rules::Client;
+use control_rules::{AskFailure, Client};
 use counter_text::{Counters, screen_text};
 use std::alloc::Global;
 use std::cell::Cell;
@@ -67,16 +70,16 @@ fn reading<R: Clock, D: Wire + Drop>(
     clock: &R,
     client: &mut Client<D>,
     earlier: Option<&Counters>,
-) -> Result<Reading, Failure>
+) -> Result<Reading, AskFailure>
     ensures { IfOk result (λ reading. Watches client.old client.new (λ history told. IsKnown history earlier.entry → AreCountersOf history told reading.counters)) }
 {
     match read_counters(clock, client, earlier)? {
         Some(reading) => Ok(reading),
-        None => Err(Failure::RulesChanged),
+        None => Err(AskFailure::RulesChanged),
     }
 }
 
-fn print_screen<W: Write>(
+fn print_screen<W: CountedWrite>(
     alloc: Global,
     clears: bool,
     readings: (&Counters, &Counters),
@@ -87,17 +90,18 @@ fn print_screen<W: Write>(
     ensures printed { OnOk result (Appends (W.contents out.old) (W.contents out.new)
         (clear_text clears ++ screen_text readings.entry.0.now readings.entry.1.now millis)) }
     ensures unwritten { IfErr result (λ failure. failure ≢ Failure.WriteFailed → out.new ≡ out.old) }
+    ensures device_failed { OutputFails result (W.failures out.old) (W.failures out.new) }
 {
     let (earlier, later) = readings;
     let text = screen_text(alloc, earlier, later, millis)?;
     if clears {
         write_whole(CLEAR, out)?;
     }
-    print_text(text.as_bytes(), out)
+    write_through(text.as_bytes(), out)
 }
 
 // Reads the counters again after the interval, and prints a screen.
-fn next_screen<R: Clock, D: Wire + Drop, W: Write>(
+fn next_screen<R: Clock, D: Wire + Drop, W: CountedWrite>(
     rt: &R,
     alloc: Global,
     client: &mut Client<D>,
@@ -107,6 +111,7 @@ fn next_screen<R: Clock, D: Wire + Drop, W: Write>(
 ) -> Result<Reading, Failure>
     ensures shown { IfOk result (λ later. ShowsMore watching.entry.clears earlier.entry.0 client.old client.new (W.contents out.old) (W.contents out.new) later.counters) }
     ensures unwritten { IfErr result (λ failure. failure ≢ Failure.WriteFailed → out.new ≡ out.old) }
+    ensures device_failed { OutputFails result (W.failures out.old) (W.failures out.new) }
 {
     let (earlier, begun) = earlier;
     wait(rt, begun, watching.interval)?;
@@ -123,7 +128,7 @@ fn next_screen<R: Clock, D: Wire + Drop, W: Write>(
 }
 
 // Prints the screens after a first reading.
-fn print_screens<R: Clock, D: Wire + Drop, W: Write>(
+fn print_screens<R: Clock, D: Wire + Drop, W: CountedWrite>(
     rt: &R,
     alloc: Global,
     client: &mut Client<D>,
@@ -133,6 +138,7 @@ fn print_screens<R: Clock, D: Wire + Drop, W: Write>(
     ensures shown { OnOk result (Shows watching.entry.clears watching.entry.count client.old client.new (W.contents out.old) (W.contents out.new)) }
     ensures fewer { IfErr result (λ failure. failure ≢ Failure.WriteFailed
         → ShowsFewer watching.entry.clears watching.entry.count client.old.switch (W.contents out.old) (W.contents out.new)) }
+    ensures device_failed { OutputFails result (W.failures out.old) (W.failures out.new) }
 {
     let mut earlier = reading(rt, client, None)?;
     for _screen in 0..watching.count {
@@ -143,7 +149,7 @@ fn print_screens<R: Clock, D: Wire + Drop, W: Write>(
     Ok(())
 }
 
-fn print_top<R: Net + Clock, W: Write>(
+fn print_top<R: Net + Clock, W: CountedWrite>(
     rt: &R,
     alloc: Global,
     reach: Reach<'_>,
@@ -154,13 +160,14 @@ fn print_top<R: Net + Clock, W: Write>(
         (W.contents out.old) (W.contents out.new)) }
     ensures fewer { IfErr result (λ failure. failure ≢ Failure.WriteFailed
         → ShowsFewer watching.entry.clears watching.entry.count (peer_of reach.entry.address) (W.contents out.old) (W.contents out.new)) }
+    ensures device_failed { OutputFails result (W.failures out.old) (W.failures out.new) }
 {
     let mut client = client_of(rt, alloc, reach)?;
     print_screens(rt, alloc, &mut client, watching, out)
 }
 
 /// Runs `top`.
-pub fn run_top<R: Net + Clock, W: Write, E: Write>(
+pub fn run_top<R: Net + Clock, W: CountedWrite, E: Write>(
     rt: &R,
     alloc: Global,
     watching: Watching<'_>,
@@ -175,6 +182,8 @@ pub fn run_top<R: Net + Clock, W: Write, E: Write>(
     ensures never_misused { result ≡ Status.Misused → ⊥ }
     ensures failed { result ≡ Status.Failed → EndsInTopFailure watching.entry.control.now watching.entry.clears watching.entry.count
         (W.contents out.old) (W.contents out.new) (E.contents errs.old) (E.contents errs.new) }
+    ensures device_failed { EndsByCause (λ cause. IsTold (Some watching.entry.control.now) cause (E.contents errs.old) (E.contents errs.new)) result
+        (W.failures out.old) (W.failures out.new) }
 {
     let control = watching.control;
     let Some(address) = ControlAddress::from_text(control) else {

@@ -1,6 +1,7 @@
 //! One line: it is sent, and its reply received and printed.
 
-ghost use Rattle.std.specs.Prelude.{◌≡◌, ◌≤◌, IfErr, IfOk, List, OnErr, Option, length, take, ℕ};
+ghost use Rattle.std.specs.Prelude.{◌≡◌, ◌≤◌, ◌⊎◌, IfErr, IfOk, List, OnErr, Option, length, take, ℕ};
+ghost use Rattle.command_streams.specs.Failures.{OutputFails};
 ghost use Rattle.control_client.specs.Exchange.{Asks, LineEndsBy};
 ghost use Rattle.control_client.specs.Refused.{ShownOn};
 ghost use Rattle.control_client.specs.Tell.{RequestTold};
@@ -11,6 +12,7 @@ use crate::device::{Peer, Wire, WireFailed};
 use crate::printing::print_reply;
 use crate::refused::{Explains, Places};
 use command_line::Failure;
+use command_streams::CountedWrite;
 use std::io::Write;
 
 /// The number of replies from elsewhere that ends the wait for a line's reply. Fewer are passed over.
@@ -24,6 +26,7 @@ fn hear<D: Wire>(wire: &mut D, switch: Peer, room: &mut [u8]) -> Result<usize, F
     ensures within { IfOk result (λ size. size ≤ length room.new) }
     ensures heard { IfOk result (λ size. Hears switch (take size room.new) (D.log wire.old) (D.log wire.new)) }
     ensures not_heard { IfErr result (λ fault. HearsNone fault switch (D.log wire.old) (D.log wire.new)) }
+    ensures faults { IfErr result (λ fault. (fault ≡ Failure.NoAnswer) ⊎ (fault ≡ Failure.PollFailed)) }
 {
     for _passed in 0..FOREIGN_LIMIT {
         match wire.receive(room) {
@@ -46,6 +49,7 @@ pub fn ask<'a, D: Wire>(
 ) -> Result<&'a [u8], Failure>
     ensures asked { IfOk result (λ reply. Asks switch line.now reply.now (D.log wire.old) (D.log wire.new)) }
     ensures unasked { IfErr result (λ fault. (out : Option (List ℕ)) → LineEndsBy fault switch line.now (D.log wire.old) (D.log wire.new) out out) }
+    ensures faults { IfErr result (λ fault. (fault ≡ Failure.NoAnswer) ⊎ (fault ≡ Failure.PollFailed)) }
 {
     if let Some(reply) = unsent_reply(switch, line) {
         return Ok(reply);
@@ -59,7 +63,7 @@ pub fn ask<'a, D: Wire>(
 
 /// Sends the request, prints its reply, and shows the reply if the request was not done. Returns true if it was not done. `room` is
 /// for the reply.
-pub(crate) fn exchange<D: Wire, W: Write, E: Write, X: Explains>(
+pub(crate) fn exchange<D: Wire, W: CountedWrite, E: Write, X: Explains>(
     wire: &mut D,
     switch: Peer,
     request: (&[u8], Places<'_>),
@@ -74,6 +78,7 @@ pub(crate) fn exchange<D: Wire, W: Write, E: Write, X: Explains>(
     ensures stopped { IfErr result (λ fault.
         LineEndsBy fault switch request.entry.0.now (D.log wire.old) (D.log wire.new) (W.contents out.old) (W.contents out.new)) }
     ensures unshown { OnErr result (errs.new ≡ errs.old) }
+    ensures device_failed { OutputFails result (W.failures out.old) (W.failures out.new) }
 {
     let (text, places) = request;
     let reply = ask(wire, switch, text, room)?;

@@ -6,6 +6,7 @@
 #![tactic(auto)]
 
 ghost use Rattle.std.specs.Prelude.{◌≡◌, IfErr, IfOk, None, OnErr};
+ghost use Rattle.command_streams.specs.Failures.{OutputFails};
 ghost use Rattle.control_client.specs.Refused.{ShownOn};
 ghost use Rattle.control_client.specs.Wire.{peer_of};
 ghost use Rattle.control_client.specs.Tell.{ChangeEndsBy, ChangeStopsOverSocket, StopsOverSocket, TellsAll, TellsChange, TellsFirst};
@@ -28,6 +29,7 @@ use asking::exchange;
 pub use asking::{FOREIGN_LIMIT, LONGEST_DATAGRAM, ask};
 pub use carrying::{LONGEST_LINE, unsent_reply};
 use command_line::Failure;
+use command_streams::CountedWrite;
 pub use device::{Came, Peer, Wire, WireFailed};
 pub use given_lines::{InputLines, Lines, WordLines};
 pub use printing::is_refusal;
@@ -60,7 +62,7 @@ pub fn limits_as_numbers()
 /// A request is sent after the reply to the one before was printed and flushed. The call goes on after a request that was not done,
 /// and ends at the first request without a reply. So a late reply is never taken for another request's reply. A request that the
 /// wire does not carry is not sent, and `unsent_reply` is its reply. At most 2^64 - 1 requests are sent.
-pub fn tell<L: Lines, D: Wire, W: Write, E: Write, X: Explains>(
+pub fn tell<L: Lines, D: Wire, W: CountedWrite, E: Write, X: Explains>(
     alloc: Global,
     lines: &mut L,
     wire: &mut D,
@@ -73,6 +75,7 @@ pub fn tell<L: Lines, D: Wire, W: Write, E: Write, X: Explains>(
         (W.contents out.old) (W.contents out.new) errs.old errs.new) }
     ensures first_told { IfErr result (λ fault. TellsFirst (ShownOn E.contents X.shows) fault switch (L.coming lines.old)
         (D.log wire.old) (D.log wire.new) (W.contents out.old) (W.contents out.new) errs.old errs.new) }
+    ensures device_failed { OutputFails result (W.failures out.old) (W.failures out.new) }
 {
     let mut room = vec![in alloc; 0; LONGEST_DATAGRAM]?;
     let mut line = Vec::new(alloc);
@@ -96,7 +99,7 @@ pub fn tell<L: Lines, D: Wire, W: Write, E: Write, X: Explains>(
 }
 
 /// Sends each request over its own socket, as `tell` does.
-pub fn tell_over_socket<R: Clock + Net, L: Lines, W: Write, E: Write, X: Explains>(
+pub fn tell_over_socket<R: Clock + Net, L: Lines, W: CountedWrite, E: Write, X: Explains>(
     rt: &R,
     alloc: Global,
     reach: Reach<'_>,
@@ -109,6 +112,7 @@ pub fn tell_over_socket<R: Clock + Net, L: Lines, W: Write, E: Write, X: Explain
         (W.contents out.old) (W.contents out.new) errs.old errs.new) }
     ensures first_told { IfErr result (λ fault. StopsOverSocket (ShownOn E.contents X.shows) fault (peer_of reach.entry.address) (L.coming lines.old)
         (W.contents out.old) (W.contents out.new) errs.old errs.new) }
+    ensures device_failed { OutputFails result (W.failures out.old) (W.failures out.new) }
 {
     let mut wire = SocketWire::open(rt, alloc, reach)?;
     tell(alloc, lines, &mut wire, reach.peer(), out, errs, explains)
@@ -118,7 +122,7 @@ pub fn tell_over_socket<R: Clock + Net, L: Lines, W: Write, E: Write, X: Explain
 /// says that the change was not done; then the reply is shown on `errs` too.
 ///
 /// A change that the wire does not carry is not sent, and `unsent_reply` is its reply.
-pub fn tell_change<L: Lines, D: Wire, W: Write, E: Write, X: Explains>(
+pub fn tell_change<L: Lines, D: Wire, W: CountedWrite, E: Write, X: Explains>(
     alloc: Global,
     lines: &mut L,
     wire: &mut D,
@@ -132,6 +136,7 @@ pub fn tell_change<L: Lines, D: Wire, W: Write, E: Write, X: Explains>(
     ensures change_ended { IfErr result (λ fault.
         ChangeEndsBy fault switch (L.coming lines.old) (D.log wire.old) (D.log wire.new) (W.contents out.old) (W.contents out.new)) }
     ensures unshown { OnErr result (errs.new ≡ errs.old) }
+    ensures device_failed { OutputFails result (W.failures out.old) (W.failures out.new) }
 {
     let mut numbers = Vec::new(alloc);
     let request = numbered_block_of(alloc, CHANGE, lines, &mut numbers)?;
@@ -145,7 +150,7 @@ pub fn tell_change<L: Lines, D: Wire, W: Write, E: Write, X: Explains>(
 }
 
 /// Sends all lines as one change over its own socket, as `tell_change` does.
-pub fn tell_change_over_socket<R: Clock + Net, L: Lines, W: Write, E: Write, X: Explains>(
+pub fn tell_change_over_socket<R: Clock + Net, L: Lines, W: CountedWrite, E: Write, X: Explains>(
     rt: &R,
     alloc: Global,
     reach: Reach<'_>,
@@ -159,6 +164,7 @@ pub fn tell_change_over_socket<R: Clock + Net, L: Lines, W: Write, E: Write, X: 
     ensures change_ended { IfErr result (λ fault.
         ChangeStopsOverSocket fault (peer_of reach.entry.address) (L.coming lines.old) (W.contents out.old) (W.contents out.new)) }
     ensures unshown { OnErr result (errs.new ≡ errs.old) }
+    ensures device_failed { OutputFails result (W.failures out.old) (W.failures out.new) }
 {
     let mut wire = SocketWire::open(rt, alloc, reach)?;
     tell_change(alloc, lines, &mut wire, reach.peer(), out, errs, explains)

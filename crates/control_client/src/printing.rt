@@ -3,10 +3,11 @@
 ghost use Rattle.std.specs.Prelude.{◌≡◌, IfErr, IfOk, OnErr, OnOk};
 ghost use Rattle.std.specs.Io.KnownBytes.{Appends};
 ghost use Rattle.command_line.specs.Ending.{AppendsBeginning};
+ghost use Rattle.command_streams.specs.Failures.{OutputFails};
 ghost use Rattle.control_client.specs.Exchange.{is_refusal, reply_line};
 
-use command_line::{Failure, write_whole};
-use std::io::Write;
+use command_line::Failure;
+use command_streams::{CountedWrite, write_through, write_whole};
 
 /// Tests whether a reply says that its request was not done.
 pub fn is_refusal(reply: &[u8]) -> bool
@@ -16,16 +17,14 @@ pub fn is_refusal(reply: &[u8]) -> bool
 }
 
 /// Prints the reply with LF, and flushes it. Returns true if the reply is a refusal.
-pub(crate) fn print_reply<W: Write>(reply: &[u8], out: &mut W) -> Result<bool, Failure>
+pub(crate) fn print_reply<W: CountedWrite>(reply: &[u8], out: &mut W) -> Result<bool, Failure>
     ensures printed { OnOk result (Appends (W.contents out.old) (W.contents out.new) (reply_line reply.now)) }
     ensures refused { IfOk result (λ refused. refused ≡ is_refusal reply.now) }
     ensures beginning { OnErr result (AppendsBeginning (W.contents out.old) (W.contents out.new) (reply_line reply.now)) }
     ensures fault { IfErr result (λ fault. fault ≡ Failure.WriteFailed) }
+    ensures device_failed { OutputFails result (W.failures out.old) (W.failures out.new) }
 {
     write_whole(reply, out)?;
-    write_whole(b"\n".as_slice(), out)?;
-    match out.flush() {
-        Ok(()) => Ok(is_refusal(reply)),
-        Err(_) => Err(Failure::WriteFailed),
-    }
+    write_through(b"\n".as_slice(), out)?;
+    Ok(is_refusal(reply))
 }

@@ -9,10 +9,9 @@ ghost use Rattle.control_counters.specs.Reading.{IsNamed};
 ghost use Rattle.control_counters.specs.Watching.{Watches};
 
 use crate::replies::{read_group_counts, read_member_counts, read_totals};
-use command_line::Failure;
 use control_client::Wire;
 use control_line::Reply;
-use control_rules::{Client, Shown, read_shown};
+use control_rules::{AskFailure, Client, Shown, read_shown};
 use counter_text::{GroupCount, MemberCount, Totals};
 use ipv4_fields::Endpoint;
 
@@ -21,7 +20,9 @@ const SHOW: &[u8] = b"show";
 const TOTALS: &[u8] = b"totals";
 
 /// Asks for the measures of the configuration.
-pub(crate) fn ask_measures<D: Wire + Drop>(client: &mut Client<D>) -> Result<Option<Shown>, Failure>
+pub(crate) fn ask_measures<D: Wire + Drop>(
+    client: &mut Client<D>,
+) -> Result<Option<Shown>, AskFailure>
     ensures { IfOk result (λ answer. Watches client.old client.new (λ history told.
         IfSome answer (λ shown. IsShownOf (history shown.version) shown × IsNamed told shown.version))) }
 {
@@ -30,7 +31,9 @@ pub(crate) fn ask_measures<D: Wire + Drop>(client: &mut Client<D>) -> Result<Opt
 }
 
 /// Asks for the totals.
-pub(crate) fn ask_totals<D: Wire + Drop>(client: &mut Client<D>) -> Result<Option<Totals>, Failure>
+pub(crate) fn ask_totals<D: Wire + Drop>(
+    client: &mut Client<D>,
+) -> Result<Option<Totals>, AskFailure>
     ensures { IfOk result (λ answer. Watches client.old client.new (λ history told.
         IfSome answer (λ totals. told ≡ totals_exchange totals ∷ []))) }
 {
@@ -51,7 +54,7 @@ fn group_line(key: Endpoint) -> Reply
 pub(crate) fn ask_group_counts<D: Wire + Drop>(
     client: &mut Client<D>,
     key: Endpoint,
-) -> Result<Option<GroupCount>, Failure>
+) -> Result<Option<GroupCount>, AskFailure>
     ensures { IfOk result (λ answer. Watches client.old client.new (λ history told.
         IfSome answer (λ group. (group.key ≡ key) × (told ≡ group_exchange group ∷ [])))) }
 {
@@ -75,7 +78,7 @@ fn member_line(key: Endpoint, id: u32) -> Reply
 pub(crate) fn ask_member_counts<D: Wire + Drop>(
     client: &mut Client<D>,
     member: MemberCount,
-) -> Result<Option<MemberCount>, Failure>
+) -> Result<Option<MemberCount>, AskFailure>
     ensures { IfOk result (λ answer. Watches client.old client.new (λ history told.
         IfSome answer (λ counts. (seat_of counts ≡ seat_of member) × (told ≡ member_exchange counts ∷ [])))) }
 {

@@ -8,15 +8,14 @@ ghost use Rattle.control_counters.specs.body.Framed.{HasFrameOf};
 
 use crate::asking::{ask_group_counts, ask_member_counts, ask_totals};
 use crate::rows::push_row;
-use command_line::Failure;
 use control_client::Wire;
-use control_rules::Client;
+use control_rules::{AskFailure, Client};
 use counter_text::{Counters, GroupCount, MemberCount};
 
 fn count_groups<D: Wire + Drop>(
     client: &mut Client<D>,
     known: &[GroupCount],
-) -> Result<Option<Vec<GroupCount>>, Failure>
+) -> Result<Option<Vec<GroupCount>>, AskFailure>
     ensures { IfOk result (λ answer. Watches client.old client.new (λ history told. IfSome answer (λ groups.
         (keys_of groups.items ≡ keys_of known.now) × (told ≡ map group_exchange groups.items)))) }
 {
@@ -33,7 +32,7 @@ fn count_groups<D: Wire + Drop>(
 fn count_members<D: Wire + Drop>(
     client: &mut Client<D>,
     known: &[MemberCount],
-) -> Result<Option<Vec<MemberCount>>, Failure>
+) -> Result<Option<Vec<MemberCount>>, AskFailure>
     ensures { IfOk result (λ answer. Watches client.old client.new (λ history told. IfSome answer (λ members.
         (seats_of members.items ≡ seats_of known.now) × (told ≡ map member_exchange members.items)))) }
 {
@@ -51,7 +50,7 @@ fn count_members<D: Wire + Drop>(
 pub(crate) fn counted<D: Wire + Drop>(
     client: &mut Client<D>,
     known: &Counters,
-) -> Result<Option<Counters>, Failure>
+) -> Result<Option<Counters>, AskFailure>
     ensures { IfOk result (λ answer. Watches client.old client.new (λ history told. IfSome answer (λ counters.
         HasFrameOf known.now counters × (told ≡ count_exchanges counters)))) }
 {

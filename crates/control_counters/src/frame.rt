@@ -8,9 +8,8 @@ ghost use Rattle.control_counters.specs.Frame.{IsFrameOf};
 ghost use Rattle.control_counters.specs.body.Framed.{AddsFirstGroups, AddsGroup, AddsSeats};
 
 use crate::rows::push_row;
-use command_line::Failure;
 use control_client::Wire;
-use control_rules::{Client, Shown, ask_group, ask_member};
+use control_rules::{AskFailure, Client, Shown, ask_group, ask_member};
 use counter_text::{Counters, GroupCount, MemberCount, Totals};
 use ipv4_fields::Endpoint;
 
@@ -21,7 +20,7 @@ fn push_seats<D: Wire + Drop>(
     key: Endpoint,
     members: u32,
     rows: &mut Vec<MemberCount>,
-) -> Result<bool, Failure>
+) -> Result<bool, AskFailure>
     requires { IsEndpoint key }
     ensures { IfOk result (λ done. Learns client.old client.new (λ history.
         IsTrue done → AddsSeats (history version) key members rows.old.items rows.new.items)) }
@@ -54,7 +53,7 @@ fn push_group<D: Wire + Drop>(
     index: u32,
     groups: &mut Vec<GroupCount>,
     members: &mut Vec<MemberCount>,
-) -> Result<bool, Failure>
+) -> Result<bool, AskFailure>
     ensures { IfOk result (λ done. Learns client.old client.new (λ history. IsTrue done →
         AddsGroup (history version) index groups.old.items groups.new.items members.old.items members.new.items)) }
 {
@@ -81,7 +80,7 @@ fn push_groups<D: Wire + Drop>(
     shown: Shown,
     groups: &mut Vec<GroupCount>,
     members: &mut Vec<MemberCount>,
-) -> Result<bool, Failure>
+) -> Result<bool, AskFailure>
     ensures { IfOk result (λ done. Learns client.old client.new (λ history. IsTrue done →
         AddsFirstGroups (history shown.version) shown.groups groups.old.items groups.new.items members.old.items members.new.items)) }
 {
@@ -97,7 +96,7 @@ fn push_groups<D: Wire + Drop>(
 pub(crate) fn read_frame<D: Wire + Drop>(
     client: &mut Client<D>,
     shown: Shown,
-) -> Result<Option<Counters>, Failure>
+) -> Result<Option<Counters>, AskFailure>
     ensures { IfOk result (λ answer. Learns client.old client.new (λ history. IsShownOf (history shown.version) shown →
         IfSome answer (λ frame. (frame.version ≡ shown.version) × IsFrameOf (history frame.version) frame))) }
 {

@@ -9,9 +9,8 @@ ghost use Rattle.control_counters.specs.body.Framed.{AreCountsOf};
 use crate::asking::ask_measures;
 use crate::counting::counted;
 use crate::frame::read_frame;
-use command_line::Failure;
 use control_client::Wire;
-use control_rules::{AGAIN, Client, Shown};
+use control_rules::{AGAIN, AskFailure, Client, Shown};
 use counter_text::{Counters, totals_again};
 use std::time::{Clock, Instant};
 
@@ -23,12 +22,12 @@ pub struct Reading {
     pub begun: Instant,
 }
 
-fn now<R: Clock>(clock: &R) -> Result<Instant, Failure>
-    ensures { IfErr result (λ failure. failure ≡ Failure.PollFailed) }
+fn now<R: Clock>(clock: &R) -> Result<Instant, AskFailure>
+    ensures { IfErr result (λ failure. failure ≡ AskFailure.PollFailed) }
 {
     match Instant::now(clock) {
         Ok(now) => Ok(now),
-        Err(_) => Err(Failure::PollFailed),
+        Err(_) => Err(AskFailure::PollFailed),
     }
 }
 
@@ -47,7 +46,7 @@ fn recounted<R: Clock, D: Wire + Drop>(
     clock: &R,
     client: &mut Client<D>,
     known: &Counters,
-) -> Result<Option<Reading>, Failure>
+) -> Result<Option<Reading>, AskFailure>
     ensures { IfOk result (λ answer. Watches client.old client.new (λ history told. IsKnown history (Some known.entry) →
         IfSome answer (λ reading. AreCountsOf history known.entry.now.version told reading.counters))) }
 {
@@ -66,7 +65,7 @@ fn read_anew<R: Clock, D: Wire + Drop>(
     clock: &R,
     client: &mut Client<D>,
     shown: Shown,
-) -> Result<Option<Reading>, Failure>
+) -> Result<Option<Reading>, AskFailure>
     ensures { IfOk result (λ answer. Watches client.old client.new (λ history told. IsShownOf (history shown.version) shown →
         IfSome answer (λ reading. AreCountsOf history shown.version told reading.counters))) }
 {
@@ -84,7 +83,7 @@ fn read_once<R: Clock, D: Wire + Drop>(
     clock: &R,
     client: &mut Client<D>,
     earlier: Option<&Counters>,
-) -> Result<Option<Reading>, Failure>
+) -> Result<Option<Reading>, AskFailure>
     ensures { IfOk result (λ answer. Watches client.old client.new (λ history told. IsKnown history earlier.entry →
         IfSome answer (λ reading. AreCountersOf history told reading.counters))) }
 {
@@ -107,7 +106,7 @@ pub fn read_counters<R: Clock, D: Wire + Drop>(
     clock: &R,
     client: &mut Client<D>,
     earlier: Option<&Counters>,
-) -> Result<Option<Reading>, Failure>
+) -> Result<Option<Reading>, AskFailure>
     ensures { IfOk result (λ answer. Watches client.old client.new (λ history told. IsKnown history earlier.entry →
         IfSome answer (λ reading. AreCountersOf history told reading.counters))) }
 {

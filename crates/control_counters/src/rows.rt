@@ -2,14 +2,14 @@
 
 ghost use Rattle.std.specs.Prelude.{◌≡◌, ◌++◌, ◌∷◌, [], OnOk};
 
-use command_line::Failure;
+use control_rules::AskFailure;
 
 /// Adds a row.
-pub(crate) fn push_row<T: Drop>(rows: &mut Vec<T>, row: T) -> Result<(), Failure>
+pub(crate) fn push_row<T: Drop>(rows: &mut Vec<T>, row: T) -> Result<(), AskFailure>
     ensures { OnOk result (rows.new.items ≡ rows.old.items ++ row ∷ []) }
 {
     match rows.push(row) {
         Ok(()) => Ok(()),
-        Err(_) => Err(Failure::OutOfMemory),
+        Err(_) => Err(AskFailure::OutOfMemory),
     }
 }

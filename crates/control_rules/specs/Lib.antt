@@ -1,3 +1,4 @@
+pub mod Asked
 pub mod Fields
 pub mod Text
 pub mod History

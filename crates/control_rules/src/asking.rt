@@ -8,11 +8,11 @@ ghost use Rattle.control_rules.specs.History.{Learns};
 ghost use Rattle.control_rules.specs.Shown.{AreWordsAt, IsGroupAt, IsMemberAt, IsShownOf};
 ghost use Rattle.control_rules.specs.body.Lines.{owner_text, words_reading};
 
+use crate::ask_failure::AskFailure;
 use crate::client::Client;
 use crate::replies::{
     GroupShown, MemberShown, Shown, WordsShown, read_group, read_member, read_shown, read_words,
 };
-use command_line::Failure;
 use control_client::Wire;
 use control_line::Reply;
 use ipv4_fields::Endpoint;
@@ -20,7 +20,7 @@ use ipv4_fields::Endpoint;
 const SHOW: &[u8] = b"show";
 
 /// Asks for the measures of the configuration.
-pub(crate) fn ask_shown<D: Wire + Drop>(client: &mut Client<D>) -> Result<Option<Shown>, Failure>
+pub(crate) fn ask_shown<D: Wire + Drop>(client: &mut Client<D>) -> Result<Option<Shown>, AskFailure>
     ensures { IfOk result (λ answer. Learns client.old client.new (λ history.
         IfSome answer (λ shown. IsShownOf (history shown.version) shown))) }
 {
@@ -41,7 +41,7 @@ fn group_line(index: u32) -> Reply
 pub fn ask_group<D: Wire + Drop>(
     client: &mut Client<D>,
     index: u32,
-) -> Result<Option<GroupShown>, Failure>
+) -> Result<Option<GroupShown>, AskFailure>
     ensures { IfOk result (λ answer. Learns client.old client.new (λ history.
         IfSome answer (λ shown. IsGroupAt (history shown.version) index shown))) }
 {
@@ -67,7 +67,7 @@ pub fn ask_member<D: Wire + Drop>(
     client: &mut Client<D>,
     key: Endpoint,
     index: u32,
-) -> Result<Option<MemberShown>, Failure>
+) -> Result<Option<MemberShown>, AskFailure>
     requires { IsEndpoint key }
     ensures { IfOk result (λ answer. Learns client.old client.new (λ history.
         IfSome answer (λ shown. IsMemberAt (history shown.version) key index shown))) }
@@ -108,7 +108,7 @@ pub(crate) fn ask_words<D: Wire + Drop>(
     client: &mut Client<D>,
     program: (Endpoint, Option<u32>),
     place: u32,
-) -> Result<Option<WordsShown>, Failure>
+) -> Result<Option<WordsShown>, AskFailure>
     requires { IsEndpoint program.0 }
     ensures { IfOk result (λ answer. Learns client.old client.new (λ history.
         IfSome answer (λ shown. AreWordsAt (history shown.version) program.0 program.1 place shown))) }

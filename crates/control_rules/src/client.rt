@@ -3,7 +3,7 @@
 ghost use Rattle.std.specs.Prelude.{◌≡◌, IfOk};
 ghost use Rattle.control_client.specs.Exchange.{Asks};
 
-use command_line::Failure;
+use crate::ask_failure::AskFailure;
 use control_client::{LONGEST_DATAGRAM, Peer, Wire, ask};
 use std::alloc::Global;
 use std::marker::Model;
@@ -27,7 +27,7 @@ impl<D: Wire + Drop> Model for Client<D> {
 }
 
 impl<D: Wire + Drop> Client<D> {
-    pub fn new(alloc: Global, wire: D, switch: Peer) -> Result<Client<D>, Failure>
+    pub fn new(alloc: Global, wire: D, switch: Peer) -> Result<Client<D>, AskFailure>
         ensures switch { IfOk result (λ client. client.switch ≡ switch) }
         ensures log { IfOk result (λ client. client.log ≡ D.log wire) }
     {
@@ -45,11 +45,13 @@ impl<D: Wire + Drop> Client<D> {
     }
 
     /// Sends a line, and returns its reply.
-    pub fn ask(&mut self, line: &[u8]) -> Result<Vec<u8>, Failure>
+    pub fn ask(&mut self, line: &[u8]) -> Result<Vec<u8>, AskFailure>
         ensures switch { self.new.switch ≡ self.old.switch }
         ensures asked { IfOk result (λ reply. Asks self.old.switch line.now reply.items self.old.log self.new.log) }
     {
-        let reply = ask(&mut self.wire, self.switch, line, &mut self.room)?;
-        Ok(Vec::from_slice(self.alloc, reply)?)
+        match ask(&mut self.wire, self.switch, line, &mut self.room) {
+            Ok(reply) => Ok(Vec::from_slice(self.alloc, reply)?),
+            Err(failure) => Err(AskFailure::of(failure)),
+        }
     }
 }

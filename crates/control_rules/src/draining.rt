@@ -7,12 +7,12 @@ ghost use Rattle.control_rules.specs.body.Attempt.{IsReplyRead};
 ghost use Rattle.control_rules.specs.body.Draining.{IsDrainAttempt, IsDrainReplyRead};
 ghost use Rattle.member_group.specs.declared.command.Command.{Command as CommandValue};
 
+use crate::ask_failure::AskFailure;
 use crate::client::Client;
 use crate::drain_refusal::DrainRefusal;
 use crate::loading::{Attempt, Loaded, pause, read_reply, read_running};
 use crate::planning::{Plan, planned};
 use crate::reading::AGAIN;
-use command_line::Failure;
 use control_client::{InputLines, Wire, block_of};
 use ipv4_fields::Endpoint;
 use std::alloc::Global;
@@ -40,11 +40,14 @@ enum DrainAttempt {
 }
 
 // Two lines as one change of a version.
-fn request_for(alloc: Global, version: u64, lines: &[u8]) -> Result<Vec<u8>, Failure>
+fn request_for(alloc: Global, version: u64, lines: &[u8]) -> Result<Vec<u8>, AskFailure>
     ensures { IfOk result (λ request. (commands : List (CommandValue (List ℕ))) → lines.now ≡ changes_text commands → IsDrainRequest version commands request.items) }
 {
     let front = format!(in alloc; "at {version} all ")?;
-    block_of(alloc, front.as_bytes(), &mut InputLines::new(lines))
+    match block_of(alloc, front.as_bytes(), &mut InputLines::new(lines)) {
+        Ok(request) => Ok(request),
+        Err(failure) => Err(AskFailure::of(failure)),
+    }
 }
 
 fn attempt_of(read: Attempt) -> DrainAttempt
@@ -65,7 +68,7 @@ fn try_drain<D: Wire + Drop>(
     client: &mut Client<D>,
     key: Endpoint,
     id: u32,
-) -> Result<DrainAttempt, Failure>
+) -> Result<DrainAttempt, AskFailure>
     ensures { IfOk result (IsDrainAttempt key id client.old client.new) }
 {
     let Some(now) = read_running(client)? else {
@@ -90,7 +93,7 @@ pub fn drain<R: Clock, D: Wire + Drop>(
     client: &mut Client<D>,
     key: Endpoint,
     id: u32,
-) -> Result<Drained, Failure>
+) -> Result<Drained, AskFailure>
     ensures drained { IfOk result (Drains key id client.old client.new) }
 {
     for _turn in 0..=AGAIN {

@@ -6,6 +6,7 @@
 
 ghost use Rattle.control_rules.specs.Rules.{RulesMakeNothingElse, RulesMakeTheirConfig};
 
+mod ask_failure;
 mod asking;
 mod change_text;
 mod client;
@@ -17,6 +18,7 @@ mod planning;
 mod reading;
 mod replies;
 
+pub use ask_failure::AskFailure;
 pub use asking::{ask_group, ask_member};
 pub use change_text::changes_text;
 pub use client::Client;

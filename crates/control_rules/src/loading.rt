@@ -7,11 +7,11 @@ ghost use Rattle.control_rules.specs.History.{Learns};
 ghost use Rattle.control_rules.specs.Load.{IsDifference, IsRequestFor, Loads};
 ghost use Rattle.control_rules.specs.body.Attempt.{IsAttempt, IsReplyRead};
 
+use crate::ask_failure::AskFailure;
 use crate::change_text::changes_text;
 use crate::client::Client;
 use crate::reading::{AGAIN, read_rules};
 use crate::replies::read_published;
-use command_line::Failure;
 use config_diff::diff;
 use control_client::{InputLines, Wire, block_of, is_refusal};
 use control_line::{RulesFault, rules};
@@ -59,7 +59,7 @@ const OUTDATED: &[u8] = b"refused M1 ";
 // The configuration of a switch, or none if its rules changed each time that they were read.
 pub(crate) fn read_running<D: Wire + Drop>(
     client: &mut Client<D>,
-) -> Result<Option<Running>, Failure>
+) -> Result<Option<Running>, AskFailure>
     ensures { IfOk result (λ answer. Learns client.old client.new (λ history.
         IfSome answer (λ running. words_config running.config ≡ words_config (history running.version)))) }
 {
@@ -73,7 +73,7 @@ pub(crate) fn read_running<D: Wire + Drop>(
             version: read.version,
             config,
         })),
-        Err(RulesFault::OutOfMemory) => Err(Failure::OutOfMemory),
+        Err(RulesFault::OutOfMemory) => Err(AskFailure::OutOfMemory),
         Err(RulesFault::Refused { line: _, reason: _ }) => Ok(None),
     }
 }
@@ -83,7 +83,7 @@ pub(crate) fn read_running<D: Wire + Drop>(
 pub fn differences<D: Wire + Drop>(
     client: &mut Client<D>,
     config: &Config,
-) -> Result<Option<Vec<u8>>, Failure>
+) -> Result<Option<Vec<u8>>, AskFailure>
     ensures read { IfOk result (λ answer. Learns client.old client.new (λ history.
         IfSome answer (λ text. IsDifference history (words_config config.now) text.items))) }
 {
@@ -102,11 +102,14 @@ fn is_same(alloc: Global, one: &Config, other: &Config) -> Result<bool, AllocErr
 }
 
 // The rules of a file as one change of a version.
-fn request_for(alloc: Global, version: u64, file: &[u8]) -> Result<Vec<u8>, Failure>
+fn request_for(alloc: Global, version: u64, file: &[u8]) -> Result<Vec<u8>, AskFailure>
     ensures { IfOk result (λ request. IsRequestFor file.now version request.items) }
 {
     let front = format!(in alloc; "at {version} anew ")?;
-    block_of(alloc, front.as_bytes(), &mut InputLines::new(file))
+    match block_of(alloc, front.as_bytes(), &mut InputLines::new(file)) {
+        Ok(request) => Ok(request),
+        Err(failure) => Err(AskFailure::of(failure)),
+    }
 }
 
 pub(crate) fn read_reply(reply: Vec<u8>) -> Attempt
@@ -131,7 +134,7 @@ fn try_once<D: Wire + Drop>(
     client: &mut Client<D>,
     file: &[u8],
     config: &Config,
-) -> Result<Attempt, Failure>
+) -> Result<Attempt, AskFailure>
     ensures { IfOk result (IsAttempt file.now (words_config config.now) client.old client.new) }
 {
     let Some(now) = read_running(client)? else {
@@ -162,7 +165,7 @@ pub fn load<R: Clock, D: Wire + Drop>(
     client: &mut Client<D>,
     file: &[u8],
     config: &Config,
-) -> Result<Loaded, Failure>
+) -> Result<Loaded, AskFailure>
     requires { IsConfigOf file.now config.now }
     ensures loaded { IfOk result (Loads file.now (words_config config.now) client.old client.new) }
 {

@@ -7,12 +7,12 @@ ghost use Rattle.control_rules.specs.Rules.{rules_file};
 ghost use Rattle.control_rules.specs.Text.{heading};
 ghost use Rattle.control_rules.specs.body.Added.{Adds, AddsFilter, AddsGroup, AddsGroups, AddsMember, AddsMembers, AddsSelector, HasWordsOf, lock_rules};
 
+use crate::ask_failure::AskFailure;
 use crate::asking::{ask_group, ask_member, ask_shown, ask_words};
 use crate::change_text::push_change;
 use crate::client::Client;
 use crate::replies::Shown;
 use bpf_verify::{OutOfMemory, Program};
-use command_line::Failure;
 use control_client::Wire;
 use control_line::Reply;
 use ipv4_fields::Endpoint;
@@ -48,7 +48,7 @@ fn read_program_words<D: Wire + Drop>(
     version: u64,
     program: (Endpoint, Option<u32>),
     count: u32,
-) -> Result<Option<Vec<u64>>, Failure>
+) -> Result<Option<Vec<u64>>, AskFailure>
     requires { IsEndpoint program.0 }
     ensures { IfOk result (λ answer. Learns client.old client.new (λ history.
         IfSome answer (λ words. HasWordsOf (history version) program.0 program.1 count words.items))) }
@@ -79,7 +79,7 @@ fn read_program<D: Wire + Drop>(
     version: u64,
     program: (Endpoint, Option<u32>),
     count: u32,
-) -> Result<Option<Program<Global>>, Failure>
+) -> Result<Option<Program<Global>>, AskFailure>
     requires { IsEndpoint program.0 }
     ensures { IfOk result (λ answer. Learns client.old client.new (λ history.
         IfSome answer (λ it. HasWordsOf (history version) program.0 program.1 count it.words))) }
@@ -97,7 +97,7 @@ fn push_selector<D: Wire + Drop>(
     key: Endpoint,
     count: u32,
     text: &mut Vec<u8>,
-) -> Result<bool, Failure>
+) -> Result<bool, AskFailure>
     requires { IsEndpoint key }
     ensures { IfOk result (λ done. Learns client.old client.new (λ history.
         IsTrue done → AddsSelector (history version) key count text.old.items text.new.items)) }
@@ -123,7 +123,7 @@ fn push_filter<D: Wire + Drop>(
     owner: (Endpoint, u32),
     count: u32,
     text: &mut Vec<u8>,
-) -> Result<bool, Failure>
+) -> Result<bool, AskFailure>
     requires { IsEndpoint owner.0 }
     ensures { IfOk result (λ done. Learns client.old client.new (λ history.
         IsTrue done → AddsFilter (history version) owner.0 owner.1 count text.old.items text.new.items)) }
@@ -168,7 +168,7 @@ fn push_member<D: Wire + Drop>(
     key: Endpoint,
     index: u32,
     text: &mut Vec<u8>,
-) -> Result<bool, Failure>
+) -> Result<bool, AskFailure>
     requires { IsEndpoint key }
     ensures { IfOk result (λ done. Learns client.old client.new (λ history.
         IsTrue done → AddsMember (history version) key index text.old.items text.new.items)) }
@@ -200,7 +200,7 @@ fn push_members<D: Wire + Drop>(
     key: Endpoint,
     members: u32,
     text: &mut Vec<u8>,
-) -> Result<bool, Failure>
+) -> Result<bool, AskFailure>
     requires { IsEndpoint key }
     ensures { IfOk result (λ done. Learns client.old client.new (λ history.
         IsTrue done → AddsMembers (history version) key members text.old.items text.new.items)) }
@@ -219,7 +219,7 @@ fn push_group<D: Wire + Drop>(
     version: u64,
     index: u32,
     text: &mut Vec<u8>,
-) -> Result<bool, Failure>
+) -> Result<bool, AskFailure>
     ensures { IfOk result (λ done. Learns client.old client.new (λ history.
         IsTrue done → AddsGroup (history version) index text.old.items text.new.items)) }
 {
@@ -247,7 +247,7 @@ fn push_groups<D: Wire + Drop>(
     version: u64,
     groups: u32,
     text: &mut Vec<u8>,
-) -> Result<bool, Failure>
+) -> Result<bool, AskFailure>
     ensures { IfOk result (λ done. Learns client.old client.new (λ history.
         IsTrue done → AddsGroups (history version) groups text.old.items text.new.items)) }
 {
@@ -277,7 +277,7 @@ fn heading(alloc: Global, shown: Shown) -> Result<Vec<u8>, OutOfMemory>
 }
 
 // The rules of a version, or none if they changed while they were read.
-fn read_once<D: Wire + Drop>(client: &mut Client<D>) -> Result<Option<RulesRead>, Failure>
+fn read_once<D: Wire + Drop>(client: &mut Client<D>) -> Result<Option<RulesRead>, AskFailure>
     ensures { IfOk result (λ answer. Learns client.old client.new (λ history.
         IfSome answer (λ rules. rules.text.items ≡ rules_file rules.version (history rules.version)))) }
 {
@@ -294,7 +294,7 @@ fn read_once<D: Wire + Drop>(client: &mut Client<D>) -> Result<Option<RulesRead>
 
 /// Reads the rules of a switch. If a reply is of another version, or shows nothing, begins again, at most `AGAIN` times. Returns `None`
 /// if no attempt came to the end.
-pub fn read_rules<D: Wire + Drop>(client: &mut Client<D>) -> Result<Option<RulesRead>, Failure>
+pub fn read_rules<D: Wire + Drop>(client: &mut Client<D>) -> Result<Option<RulesRead>, AskFailure>
     ensures read { IfOk result (λ answer. Learns client.old client.new (λ history.
         IfSome answer (λ rules. rules.text.items ≡ rules_file rules.version (history rules.version)))) }
 {

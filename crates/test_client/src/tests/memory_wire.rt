@@ -3,6 +3,7 @@
 ghost use Rattle.std.specs.Prelude.{◌≤◌, IfSome, length};
 
 use command_line::Failure;
+use command_streams::CountedWriter;
 use control_client::{
     Came, Explains, InputLines, Lines, Peer, Places, Wire, WireFailed, tell, tell_change,
 };
@@ -131,15 +132,9 @@ pub fn told_lines<L: Lines, E: Write>(
 ) -> Told {
     let mut wire = new_wire(alloc, switch, arrivals);
     let mut printed = Vec::new(alloc);
-    let ended = tell(
-        alloc,
-        lines,
-        &mut wire,
-        switch,
-        &mut printed,
-        errs,
-        &Numbers,
-    );
+    let mut out = CountedWriter::new(&mut printed);
+    let ended = tell(alloc, lines, &mut wire, switch, &mut out, errs, &Numbers);
+    let _ = out.into_inner();
     let MemoryWire {
         switch: _,
         left: _,
@@ -161,15 +156,9 @@ pub fn told_change<L: Lines, E: Write>(
 ) -> Told {
     let mut wire = new_wire(alloc, SWITCH, arrivals);
     let mut printed = Vec::new(alloc);
-    let ended = tell_change(
-        alloc,
-        lines,
-        &mut wire,
-        SWITCH,
-        &mut printed,
-        errs,
-        &Numbers,
-    );
+    let mut out = CountedWriter::new(&mut printed);
+    let ended = tell_change(alloc, lines, &mut wire, SWITCH, &mut out, errs, &Numbers);
+    let _ = out.into_inner();
     let MemoryWire {
         switch: _,
         left: _,

@@ -1,3 +1,5 @@
+use Rattle.command_streams.proofs.OutputLemmas.{ends_as, ends_unwritten}
+use Rattle.command_operating.specs.Reported.{told_alone}
 use Rattle.control_client.specs.Wire.{peer_of}
 use Rattle.command_operating.specs.Showing.{file_refused}
 use Rattle.command_operating.proofs.ShowingLemmas.{checks, fails_asked, fails_unread, fails_writing, is_switch, refuses_change, refuses_switch, replaces, shows}
@@ -49,3 +51,6 @@ returns-clause-failed g c =
     let failed = rw c.in-Ok.ensures.unwritten at c.replace.ensures.failed in
     let told = rw c.in-Ok.ensures.no_errors at failed in
     λ is. fails_asked _ c.in-Some.control.now c.in-Some.address _ _ _ _ c.in-Some.ensures (told is)
+
+pub returns-in_default-clause-device_failed : goal.returns-in_default-clause-device_failed
+returns-in_default-clause-device_failed g c = ends_unwritten _ _ _ c.refuse_address.result (λ is. told_alone (c.refuse_address.ensures.failed is)) c.refuse_address.ensures.device_failed

@@ -5,12 +5,12 @@ use Rattle.command_operating.proofs.measuring.print_metrics.Goals as goal
 
 pub returns-clause-printed : goal.returns-clause-printed
 returns-clause-printed g c =
-    on_ok_all c.print_text.result
+    on_ok_all c.write_through.result
     (λ written. record {
       counters = c.in_ok-counters.counters;
       drops = c.in_ok-drops.drops;
       are_counters = c.in_ok-counters.ensures;
-      are_drops = c.in_ok-drops.ensures;
-      written = subst (Appends (g.W.Write.contents c.args.out.now) (g.W.Write.contents c.print_text.new.out)) (c.as_bytes.ensures.value ∙ c.in_ok-text.ensures) written;
+      are_drops = c.in_ok-drops.ensures.drops;
+      written = subst (Appends (g.W.CountedWrite.contents c.args.out.now) (g.W.CountedWrite.contents c.write_through.new.out)) (c.as_bytes.ensures.value ∙ c.in_ok-text.ensures) written;
     })
-    c.print_text.ensures.printed
+    c.write_through.ensures.written

@@ -1,5 +1,6 @@
 use Rattle.std.proofs.Common.{inr, refl}
 use Rattle.command_line.specs.declared.ending.Failure.TheVariants.{OutOfMemory}
+use Rattle.command_streams.proofs.OutputLemmas.{ends_in_failure}
 use Rattle.command_operating.proofs.OpeningLemmas.{charge_within, not_read}
 use Rattle.command_operating.proofs.rules_file.file_of.Goals as goal
 
@@ -8,3 +9,7 @@ returns-in-Ok-rules-clause-within g c = charge_within _ c.in-Ok-rules.config c.i
 
 pub returns-clause-failed : goal.returns-clause-failed
 returns-clause-failed g c = λ is. not_read _ _ _ OutOfMemory (inr refl) c.report-in-Err-OutOfMemory.ensures.told
+
+pub returns-clause-device_failed : goal.returns-clause-device_failed
+returns-clause-device_failed g c =
+    ends_in_failure _ _ _ c.report-in-Err-OutOfMemory.result OutOfMemory c.report-in-Err-OutOfMemory.ensures.failed c.report-in-Err-OutOfMemory.ensures.told refl
