@@ -1,4 +1,4 @@
-use Rattle.command_streams.proofs.OutputLemmas.{ends_as, ends_unwritten}
+use Rattle.command_streams.proofs.OutputLemmas.{ends_unwritten}
 use Rattle.command_operating.specs.Reported.{told_alone}
 use Rattle.control_client.specs.Wire.{peer_of}
 use Rattle.command_operating.specs.Showing.{file_refused}

@@ -1,4 +1,4 @@
-use Rattle.command_streams.proofs.OutputLemmas.{counts_failure, ends_in_failure, ends_unwritten}
+use Rattle.command_streams.proofs.OutputLemmas.{ends_unwritten}
 use Rattle.command_operating.specs.Reported.{told_alone}
 use Rattle.command_operating.proofs.MeasuringLemmas.{writes_metrics}
 use Rattle.command_operating.proofs.ShowingLemmas.{fails_writing}
