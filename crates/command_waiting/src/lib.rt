@@ -17,6 +17,7 @@ use command_line::{Status, Waiting};
 use command_operating::{
     Draining, Loading, Watching, run_drain, run_load, run_metrics, run_rules, run_tell, run_top,
 };
+use command_streams::CountedWriter;
 use logging::ServeLog;
 pub use serve_udp::{serve, serve_direct, serve_with};
 use serving::run_serve;
@@ -85,16 +86,20 @@ pub fn run_waiting<
             timeout,
             all,
             lines,
-        } => run_tell(
-            rt,
-            alloc,
-            (control, timeout, all),
-            lines.as_slice(),
-            input,
-            out,
-            errs,
-        ),
-        Waiting::Rules { control, timeout } => run_rules(rt, alloc, control, timeout, out, errs),
+        } => {
+            let mut results = CountedWriter::new(out);
+            let told = (control, timeout, all);
+            let words = lines.as_slice();
+            let status = run_tell(rt, alloc, told, words, input, &mut results, errs);
+            let _ = results.into_inner();
+            status
+        }
+        Waiting::Rules { control, timeout } => {
+            let mut results = CountedWriter::new(out);
+            let status = run_rules(rt, alloc, control, timeout, &mut results, errs);
+            let _ = results.into_inner();
+            status
+        }
         Waiting::Load {
             control,
             timeout,
@@ -109,7 +114,10 @@ pub fn run_waiting<
                 check,
                 diff,
             };
-            run_load(rt, alloc, loading, out, errs)
+            let mut results = CountedWriter::new(out);
+            let status = run_load(rt, alloc, loading, &mut results, errs);
+            let _ = results.into_inner();
+            status
         }
         Waiting::Drain {
             control,
@@ -123,13 +131,22 @@ pub fn run_waiting<
                 key,
                 member,
             };
-            run_drain(rt, alloc, draining, out, errs)
+            let mut results = CountedWriter::new(out);
+            let status = run_drain(rt, alloc, draining, &mut results, errs);
+            let _ = results.into_inner();
+            status
         }
         Waiting::Metrics {
             control,
             front,
             timeout,
-        } => run_metrics(rt, alloc, (control, front), timeout, out, errs),
+        } => {
+            let mut results = CountedWriter::new(out);
+            let addresses = (control, front);
+            let status = run_metrics(rt, alloc, addresses, timeout, &mut results, errs);
+            let _ = results.into_inner();
+            status
+        }
         Waiting::Top {
             control,
             interval,
@@ -143,7 +160,10 @@ pub fn run_waiting<
                 timeout,
                 clears: terminal,
             };
-            run_top(rt, alloc, watching, out, errs)
+            let mut results = CountedWriter::new(out);
+            let status = run_top(rt, alloc, watching, &mut results, errs);
+            let _ = results.into_inner();
+            status
         }
     }
 }

@@ -1,9 +1,12 @@
 //! The command `serve`: the switch on its sockets (docs/COMMANDS.md, "serve").
 
-ghost use Rattle.std.specs.Prelude.{◌≡◌, ◌≤◌, ◌⊎◌, IfOk, None, option_map, vec_len};
+ghost use Rattle.std.specs.Prelude.{◌≡◌, ◌≤◌, ◌⊎◌, IfErr, IfOk, IsSome, None, OnOk, codes, option_map, vec_len};
+ghost use Rattle.std.specs.Io.KnownBytes.{Appends};
 ghost use Rattle.member_group.specs.Charge.{charge_of};
 ghost use Rattle.versions.specs.declared.layout.TheConstants.{CHARGE_LIMIT};
-ghost use Rattle.command_line.specs.Ending.{AppendsBeginning};
+ghost use Rattle.command_line.specs.Ending.{AppendsBeginning, line_of};
+ghost use Rattle.command_line.specs.declared.ending.Failure.TheVariants as failure;
+ghost use Rattle.command_operating.specs.Opening.{EndsUnread, IsOpening, RefusesRules};
 ghost use Rattle.serve_udp.specs.Front.{HasFronts};
 ghost use Rattle.serve_udp.specs.Service.{WritesServedFrom};
 ghost use Rattle.command_waiting.specs.Serving.{FailsServing, IsBindLine, socket_name};
@@ -14,6 +17,7 @@ use command_line::{
     ControlAddress, Failure, ReceiveBuffer, ReceiveWay, Status, Workers, write_whole,
 };
 use command_operating::{opening, refuse_address};
+use command_streams::CountedWriter;
 use dispatch::OpenGate;
 use ipv4_fields::Endpoint;
 use member_group::Config;
@@ -150,6 +154,45 @@ fn serve_at<R: Threads + Wait + Net + Files + Sync, W: Write, E: Write, L: Write
     }
 }
 
+// Refuses a text that is no address.
+fn refuse<W: Write, E: Write>(out: &mut W, errs: &mut E) -> Status
+    ensures refused { result ≡ Status.Refused → Appends (W.contents out.old) (W.contents out.new) (codes "refused C1\n") }
+    ensures no_errors { result ≡ Status.Refused → errs.new ≡ errs.old }
+    ensures never_done { result ≡ Status.Done → ⊥ }
+    ensures never_misused { result ≡ Status.Misused → ⊥ }
+    ensures failed { result ≡ Status.Failed → AppendsBeginning (E.contents errs.old) (E.contents errs.new) (line_of failure.WriteFailed) }
+{
+    let mut results = CountedWriter::new(out);
+    let status = refuse_address(&mut results, errs);
+    let _ = results.into_inner();
+    status
+}
+
+// The configuration to begin with.
+fn open_rules<R: Files, W: Write, E: Write>(
+    rt: &R,
+    alloc: Global,
+    file: Option<&str>,
+    out: &mut W,
+    errs: &mut E,
+) -> Result<Config, Status>
+    ensures made { IfOk result (λ config. IsOpening (option_map (λ name. name.now) file.entry) config) }
+    ensures within { IfOk result (λ config. charge_of config ≤ CHARGE_LIMIT) }
+    ensures unwritten { OnOk result (out.new ≡ out.old) }
+    ensures no_errors { OnOk result (errs.new ≡ errs.old) }
+    ensures refused { IfErr result (λ status. status ≡ Status.Refused
+        → IsSome file.entry × RefusesRules None (W.contents out.old) (W.contents out.new)) }
+    ensures never_done { IfErr result (λ status. status ≡ Status.Done → ⊥) }
+    ensures never_misused { IfErr result (λ status. status ≡ Status.Misused → ⊥) }
+    ensures failed { IfErr result (λ status. status ≡ Status.Failed
+        → IsSome file.entry × EndsUnread (W.contents out.old) (W.contents out.new) (E.contents errs.old) (E.contents errs.new)) }
+{
+    let mut results = CountedWriter::new(out);
+    let opened = opening(rt, alloc, file, &mut results, errs);
+    let _ = results.into_inner();
+    opened
+}
+
 #[tactic(auto, using(crate::proofs::FailureLemmas::fails_unread, crate::proofs::FailureLemmas::fails_serving, crate::proofs::FailureLemmas::named, crate::proofs::FailureLemmas::is_given))]
 /// Runs `serve` with the texts of both addresses, how the front receives, the name of a rules file if there is one, and the
 /// destination of the log's lines.
@@ -182,12 +225,12 @@ pub(crate) fn run_serve<
         (W.contents out.old) (W.contents out.new) (E.contents errs.old) (E.contents errs.new) }
 {
     let Some(address) = Endpoint::from_text(addresses.0.as_bytes()) else {
-        return refuse_address(out, errs);
+        return refuse(out, errs);
     };
     let Some(control) = ControlAddress::from_text(addresses.1) else {
-        return refuse_address(out, errs);
+        return refuse(out, errs);
     };
-    let config = match opening(rt, alloc, file, out, errs) {
+    let config = match open_rules(rt, alloc, file, out, errs) {
         Ok(config) => config,
         Err(status) => return status,
     };

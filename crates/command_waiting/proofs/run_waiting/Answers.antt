@@ -34,9 +34,6 @@ returns-in-Serve-clause-refused g c = λ ended. rw c.in-Serve.is (c.run_serve.en
 pub returns-in-Tell-clause-done : goal.returns-in-Tell-clause-done
 returns-in-Tell-clause-done g c = search rules
 
-pub returns-in-Tell-clause-failed : goal.returns-in-Tell-clause-failed
-returns-in-Tell-clause-failed g c = λ ended. rw c.in-Tell.is (rw c.as_slice.ensures.value at (c.run_tell.ensures.failed ended))
-
 pub returns-in-Tell-clause-never_misused : goal.returns-in-Tell-clause-never_misused
 returns-in-Tell-clause-never_misused g c = search rules
 

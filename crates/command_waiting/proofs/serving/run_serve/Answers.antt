@@ -4,10 +4,10 @@ use Rattle.command_waiting.proofs.FailureLemmas.{fails_unwritten, named}
 use Rattle.command_waiting.proofs.serving.run_serve.Goals as goal
 
 pub returns-in_default-clause-failed : goal.returns-in_default-clause-failed
-returns-in_default-clause-failed g c = λ is. fails_unwritten _ _ _ _ _ _ _ (c.refuse_address.ensures.failed is)
+returns-in_default-clause-failed g c = λ is. fails_unwritten _ _ _ _ _ _ _ (c.refuse.ensures.failed is)
 
 pub returns-in_default-from_text-clause-failed : goal.returns-in_default-from_text-clause-failed
-returns-in_default-from_text-clause-failed g c = λ is. fails_unwritten _ _ _ _ _ _ _ (c.refuse_address-in_default-from_text.ensures.failed is)
+returns-in_default-from_text-clause-failed g c = λ is. fails_unwritten _ _ _ _ _ _ _ (c.refuse-in_default-from_text.ensures.failed is)
 
 pub returns-in_default-from_text-clause-refused : goal.returns-in_default-from_text-clause-refused
 returns-in_default-from_text-clause-refused g c = search rules
