@@ -9,12 +9,11 @@ use Rattle.command_operating.proofs.MeasuringLemmas.{if_err, none_shown, one_sho
 use Rattle.command_operating.proofs.watching.print_screens.Goals as goal
 
 pub loop-screen-init : goal.loop-screen-init
-loop-screen-init g c =
-    (
-      none_shown c.args.watching.clears c.args.client.now (g.W.CountedWrite.contents c.args.out.now) c.reading.new.client c.in_ok-earlier.earlier.counters
-          (watches_weaker _ _ _ _ (λ history told are it. it tt) c.in_ok-earlier.ensures),
-      refl,
-    )
+loop-screen-init g c = (
+  none_shown c.args.watching.clears c.args.client.now (g.W.CountedWrite.contents c.args.out.now) c.reading.new.client c.in_ok-earlier.earlier.counters
+      (watches_weaker _ _ _ _ (λ history told are it. it tt) c.in_ok-earlier.ensures),
+  refl,
+)
 
 pub returns-in_err-later-clause-fewer : goal.returns-in_err-later-clause-fewer
 returns-in_err-later-clause-fewer g c =
@@ -30,12 +29,11 @@ returns-in_err-later-clause-fewer g c =
     c.loop-screen-test.true c.loop-screen.invariant.0))
 
 pub loop-screen-preserved : goal.loop-screen-preserved
-loop-screen-preserved g c =
-    (
-      one_shown c.args.watching.clears c.args.client.now (g.W.CountedWrite.contents c.args.out.now) c.loop-screen._screen c.loop-screen.client c.next_screen.new.client
-          (g.W.CountedWrite.contents c.loop-screen.out) (g.W.CountedWrite.contents c.next_screen.new.out) _ c.in_ok-later.later.counters c.loop-screen.invariant.0 c.in_ok-later.ensures.shown,
-      c.in_ok-later.ensures.device_failed ∙ c.loop-screen.invariant.1,
-    )
+loop-screen-preserved g c = (
+  one_shown c.args.watching.clears c.args.client.now (g.W.CountedWrite.contents c.args.out.now) c.loop-screen._screen c.loop-screen.client c.next_screen.new.client
+      (g.W.CountedWrite.contents c.loop-screen.out) (g.W.CountedWrite.contents c.next_screen.new.out) _ c.in_ok-later.later.counters c.loop-screen.invariant.0 c.in_ok-later.ensures.shown,
+  c.in_ok-later.ensures.device_failed ∙ c.loop-screen.invariant.1,
+)
 
 pub returns-clause-shown : goal.returns-clause-shown
 returns-clause-shown g c =
