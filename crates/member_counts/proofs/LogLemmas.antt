@@ -1,5 +1,5 @@
 -- The last run of a log, after those before it.
-use Rattle.std.proofs.Common.{◌≡◌, ◌==◌, ◌&&◌, ◌+◌, ◌-◌, ◌%◌, ◌<◌, ◌≤◌, ◌^◌, ◌∙◌, ◌++◌, ◌∷◌, Bool, List, None, Option, Some, [], ap, ap₂, arith, false, length, nat_eq, not, refl, sym, true, ℕ}
+use Rattle.std.proofs.Common.{◌≡◌, ◌==◌, ◌&&◌, ◌+◌, ◌-◌, ◌%◌, ◌<◌, ◌≤◌, ◌^◌, ◌∙◌, ◌++◌, ◌∷◌, Bool, IsSome, List, None, Option, Some, [], ap, ap₂, arith, false, length, nat_eq, not, refl, sym, true, ℕ}
 use Rattle.std.proofs.lemmas.Bool.Decides.{Decides-and, Decides-eqb, Decides-like, nat_tests, same_from_decides}
 use Rattle.std.specs.Option.{option_eq}
 use Rattle.ipv4_fields.specs.declared.endpoint.Endpoint.{Endpoint}
@@ -8,7 +8,7 @@ use Rattle.member_counts.specs.declared.key.CountKey.{CountKey}
 use Rattle.member_counts.specs.declared.log.Run.{Run}
 use Rattle.member_counts.specs.Counts.{capped, delivered_one, failed_one, no_counts, plus}
 use Rattle.member_counts.specs.Key.{member_key, same_group, same_key}
-use Rattle.member_counts.specs.Log.{earlier_runs, last_failed, last_has, last_run, marked_failed, with_counts, with_run}
+use Rattle.member_counts.specs.Log.{Log, earlier_runs, last_failed, last_key, last_run, marked_failed, with_counts, with_run}
 use Rattle.member_counts.specs.body.Runs.{IsPacked, group_number, has_run, is_sent, number_of, packed_one, packets, runs, unpacked, whole}
 use Rattle.member_counts.proofs.KeyLemmas.{same_key_from}
 use Rattle.member_counts.proofs.SumLemmas.{Bytes, Delivered, Dropped, Kind, NoMembers, SendFailed, capped-below, capped-plus, of, of-no_counts, of-plus}
@@ -98,15 +98,11 @@ module _ (key : CountKey) (counts : Counts) where
   same (first ∷ (next ∷ rest)) last is = ap (λ runs. first ∷ runs) (same (next ∷ rest) last is)
 
   -- counts of another key are a new run, and so are the first ones
-  pub next-run : (entries : List Run) → last_has key entries ≡ false → entries ++ record { key = key; counts = counts } ∷ [] ≡ with_run key counts entries
-  next-run [] other = refl
-  next-run (last ∷ []) other = rw other refl
-  next-run (first ∷ (next ∷ rest)) other = ap (λ runs. first ∷ runs) (next-run (next ∷ rest) other)
-
-  pub last-has : (earlier : List Run) (last : Run) → last_has key (earlier ++ last ∷ []) ≡ same_key last.key key
-  last-has [] last = refl
-  last-has (first ∷ []) last = refl
-  last-has (first ∷ (next ∷ rest)) last = last-has (next ∷ rest) last
+  pub next-run : (kept : CountKey) (entries : List Run) → same_key (last_key kept entries) key ≡ false
+      → entries ++ record { key = key; counts = counts } ∷ [] ≡ with_run key counts entries
+  next-run kept [] other = refl
+  next-run kept (last ∷ []) other = rw other refl
+  next-run kept (first ∷ (next ∷ rest)) other = ap (λ runs. first ∷ runs) (next-run kept (next ∷ rest) other)
 
   -- counts of the key of the last run are added to it, or are the first run of an empty log that keeps the key
   pub run-again : (earlier : List Run) (has_counts : Bool) (last : Run) (packed : ℕ) (sum : Counts)
@@ -128,16 +124,30 @@ module _ (key : CountKey) (counts : Counts) where
               ap₂ (λ (key : CountKey) (counts : Counts). record { key = key; counts = counts } ∷ []) own (is ∙ zero)
           first (run ∷ before) short nothing = absurd (omega (arith, short))
 
--- a log whose last run has a key has a run
-pub has-key : (earlier : List Run) (has : Bool) (last : Run) (key : CountKey) → (has ≡ false → length earlier ≡ 0)
-    → last_has key (runs earlier has last) ≡ true → same_key last.key key ≡ true
-has-key earlier true last key none there = sym (last-has key no_counts earlier last) ∙ there
-has-key [] false last key none there = cc
-has-key (run ∷ earlier) false last key none there = let empty = none refl in absurd (omega (arith, empty))
+last-key-is : (kept : CountKey) (earlier : List Run) (last : Run) → last_key kept (earlier ++ last ∷ []) ≡ last.key
+last-key-is kept [] last = refl
+last-key-is kept (first ∷ []) last = refl
+last-key-is kept (first ∷ (next ∷ rest)) last = last-key-is kept (next ∷ rest) last
 
-pub none-has : (key : CountKey) (entries : List Run) → length entries ≤ 0 → last_has key entries ≡ true → ⊥
-none-has key [] few there = cc
-none-has key (run ∷ entries) few there = omega (arith, few)
+-- the key of a log is that of its last run, whether it has counts or not
+last-key : (earlier : List Run) (has : Bool) (last : Run) → (has ≡ false → length earlier ≡ 0) → last_key last.key (runs earlier has last) ≡ last.key
+last-key earlier true last none = last-key-is last.key earlier last
+last-key [] false last none = refl
+last-key (run ∷ earlier) false last none = let empty = none refl in absurd (omega (arith, empty))
+
+-- counts of a key need no room exactly if it is the key of the last run, whether that has counts or not
+pub has-last_key : (key : CountKey) (earlier : List Run) (has : Bool) (last : Run) → (has ≡ false → length earlier ≡ 0)
+    → same_key (last_key last.key (runs earlier has last)) key ≡ same_key last.key key
+has-last_key key earlier has last none = ap (λ own. same_key own key) (last-key earlier has last none)
+
+-- a key of no member is no member's
+pub no-member : (kept key : CountKey) → kept.member ≡ None → IsSome key.member → false ≡ same_key kept key
+no-member kept key none some = rw none (by (same_group kept.group key.group) key.member some)
+  where
+    by : (group : Bool) (member : Option ℕ) → IsSome member → false ≡ (group && option_eq nat_eq None member)
+    by true None some = cc
+    by true (Some id) some = refl
+    by false member some = refl
 
 and-swap : (a b : Bool) → (a && b) ≡ (b && a)
 and-swap true true = refl
@@ -185,8 +195,9 @@ pub from-not : (b : Bool) → not b ≡ false → b ≡ true
 from-not true is = refl
 from-not false is = cc
 
-pub never-so : (b c : Bool) → (b ≡ true → c ≡ true) → c ≡ false → b ≡ false
-never-so b c so is = not-true b (λ true_now. let both : true ≡ false = sym (so true_now) ∙ is in cc)
+pub from-other : (b : Bool) → not b ≡ true → false ≡ b
+from-other true is = cc
+from-other false is = refl
 
 -- a sum that is not below what was added to did not wrap, and one that wrapped is taken back
 pub not-wrapped : (packed one : ℕ) → packed < 2 ^ 128 → one < 2 ^ 128 → packed ≤ (packed + one) % 2 ^ 128
@@ -213,18 +224,23 @@ pub delivered-log : (earlier : List Run) (has_counts : Bool) (last : Run) (packe
       entries = runs earlier (has_run has_counts (packed + packed_one bytes)) (whole last (packed + packed_one bytes));
       room = room;
       sent = is_sent (packed + packed_one bytes) ended;
+      kept = last.key;
     }
     ≡ with_counts key (delivered_one bytes) true (record {
       entries = runs earlier (has_run has_counts packed) (whole last packed);
       room = room;
       sent = is_sent packed ended;
+      kept = last.key;
     })
 delivered-log earlier has_counts last packed ended room bytes key none empty is before own fits =
     rw (has-more has_counts packed bytes is fits)
-    (ap₂ (λ (entries : List Run) (sent : Bool). record { entries = entries; room = room; sent = sent })
+    (let make : List Run → Bool → CountKey → Log = λ entries sent kept. record { entries = entries; room = room; sent = sent; kept = kept } in
+    ap₂ (λ (f : CountKey → Log) kept. f kept)
+    (ap₂ make
     (run-again key (delivered_one bytes) earlier has_counts last packed (plus last.counts (unpacked (packed + packed_one bytes))) none empty own
     (whole-more last.counts packed bytes is fits) (fits-one bytes (omega (arith, fits))))
     (sent-other (packed + packed_one bytes) ended (λ same. omega (arith, same, before))))
+    own)
 
 failed : (earlier : List Run) (last : Run)
     → earlier ++ record last { counts = plus last.counts failed_one } ∷ [] ≡ last_failed (earlier ++ last ∷ [])
@@ -232,14 +248,14 @@ failed [] last = refl
 failed (first ∷ []) last = refl
 failed (first ∷ (next ∷ rest)) last = ap (λ runs. first ∷ runs) (failed (next ∷ rest) last)
 
-pub failed-log : (earlier : List Run) (has : Bool) (last : Run) (room : ℕ) (sent : Bool) (sum : Counts) → sent ≡ true → (has ≡ false → sent ≡ false)
+pub failed-log : (earlier : List Run) (has : Bool) (last : Run) (room : ℕ) (sent : Bool) (kept : CountKey) (sum : Counts) → sent ≡ true → (has ≡ false → sent ≡ false)
     → sum ≡ plus last.counts failed_one
-    → record { entries = earlier ++ record last { counts = sum } ∷ []; room = room; sent = false }
-    ≡ marked_failed (record { entries = runs earlier has last; room = room; sent = sent })
-failed-log earlier true last room true sum there none is =
-    rw is (ap (λ (entries : List Run). record { entries = entries; room = room; sent = false }) (failed earlier last))
-failed-log earlier false last room true sum there none is = let nothing = none refl in cc
-failed-log earlier has last room false sum there none is = cc
+    → record { entries = earlier ++ record last { counts = sum } ∷ []; room = room; sent = false; kept = kept }
+    ≡ marked_failed (record { entries = runs earlier has last; room = room; sent = sent; kept = kept })
+failed-log earlier true last room true kept sum there none is =
+    rw is (ap (λ (entries : List Run). record { entries = entries; room = room; sent = false; kept = kept }) (failed earlier last))
+failed-log earlier false last room true kept sum there none is = let nothing = none refl in cc
+failed-log earlier has last room false kept sum there none is = cc
 
 earlier : (runs : List Run) (last : Run) → runs ≡ earlier_runs (runs ++ last ∷ [])
 earlier [] last = refl

@@ -9,12 +9,21 @@ use Rattle.member_counts.specs.declared.log.Run.{Run}
 use Rattle.member_counts.specs.Counts.{delivered_one, dropped_one, failed_one, no_members_one, plus}
 use Rattle.member_counts.specs.Key.{group_key, member_key, same_key}
 
--- the runs in their order, the number of runs for which there is room, and whether the last packet that was counted was delivered
--- and its send has not failed
+-- the runs in their order, the number of runs for which there is room, whether the last packet that was counted was delivered and its
+-- send has not failed, and the key of the last packet that was counted, which an empty log keeps
 pub record Log : Type 0 where
   pub entries : List Run
   pub room : ℕ
   pub sent : Bool
+  pub kept : CountKey
+
+-- a new log keeps a key that no member has
+abbrev pub new_log : ℕ → Log
+new_log room = record { entries = []; room = room; sent = false; kept = group_key (record { address = 0; port = 0 }) }
+
+-- no run is left
+abbrev pub cleared : Log → Log
+cleared log = record log { entries = []; sent = false }
 
 -- counts are added to the last run, if it has the key; otherwise they are a new run
 abbrev pub with_run : CountKey → Counts → List Run → List Run
@@ -24,7 +33,7 @@ with_run key counts (last ∷ []) =
 with_run key counts (first ∷ (next ∷ rest)) = first ∷ with_run key counts (next ∷ rest)
 
 abbrev pub with_counts : CountKey → Counts → Bool → Log → Log
-with_counts key counts sent log = record log { entries = with_run key counts log.entries; sent = sent }
+with_counts key counts sent log = record log { entries = with_run key counts log.entries; sent = sent; kept = key }
 
 -- a verdict that names a member is counted
 abbrev pub with_verdict : Verdict → Log → Log
@@ -37,27 +46,31 @@ with_verdict (verdict.Deliver group member to bytes) log = with_counts (member_k
 abbrev pub with_no_members : Endpoint → Log → Log
 with_no_members group log = with_counts (group_key group) no_members_one false log
 
--- the last run has the key
-abbrev pub last_has : CountKey → List Run → Bool
-last_has key [] = false
-last_has key (last ∷ []) = same_key last.key key
-last_has key (first ∷ (next ∷ rest)) = last_has key (next ∷ rest)
+-- the key of the last run; if there is none, the key that is kept
+abbrev pub last_key : CountKey → List Run → CountKey
+last_key kept [] = kept
+last_key kept (last ∷ []) = last.key
+last_key kept (first ∷ (next ∷ rest)) = last_key kept (next ∷ rest)
 
--- a verdict names no member, or the last run's
-abbrev pub begins_no_run : Verdict → List Run → Bool
-begins_no_run verdict.Malformed runs = true
-begins_no_run verdict.NoGroup runs = true
-begins_no_run verdict.NoMembers runs = true
-begins_no_run (verdict.Dropped group member) runs = last_has (member_key group member) runs
-begins_no_run (verdict.Deliver group member to bytes) runs = last_has (member_key group member) runs
+-- counts of the key need no room: the last run has it, or there is no run, and the key is kept
+abbrev pub has_key : CountKey → Log → Bool
+has_key key log = same_key (last_key log.kept log.entries) key
 
--- a verdict delivers to the last run's member
-abbrev pub delivers_again : Verdict → List Run → Bool
-delivers_again verdict.Malformed runs = false
-delivers_again verdict.NoGroup runs = false
-delivers_again verdict.NoMembers runs = false
-delivers_again (verdict.Dropped group member) runs = false
-delivers_again (verdict.Deliver group member to bytes) runs = last_has (member_key group member) runs
+-- a verdict names no member, or the member of that key
+abbrev pub begins_no_run : Verdict → Log → Bool
+begins_no_run verdict.Malformed log = true
+begins_no_run verdict.NoGroup log = true
+begins_no_run verdict.NoMembers log = true
+begins_no_run (verdict.Dropped group member) log = has_key (member_key group member) log
+begins_no_run (verdict.Deliver group member to bytes) log = has_key (member_key group member) log
+
+-- a verdict delivers to the member of that key
+abbrev pub delivers_again : Verdict → Log → Bool
+delivers_again verdict.Malformed log = false
+delivers_again verdict.NoGroup log = false
+delivers_again verdict.NoMembers log = false
+delivers_again (verdict.Dropped group member) log = false
+delivers_again (verdict.Deliver group member to bytes) log = has_key (member_key group member) log
 
 -- one failed send more in the last run
 abbrev pub last_failed : List Run → List Run

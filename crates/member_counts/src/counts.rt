@@ -1,7 +1,7 @@
 //! The counts of verdicts, and the texts of these counts (docs/SWITCH.md, "Counters by member").
 
 ghost use Rattle.std.specs.Prelude.{◌+◌, ◌-◌, ◌≡◌, ◌^◌, Some};
-ghost use Rattle.member_counts.specs.Counts.{capped, group_part, group_text, member_part, member_text, no_counts, plus};
+ghost use Rattle.member_counts.specs.Counts.{capped, delivered_one, dropped_one, group_part, group_text, member_part, member_text, no_counts, plus};
 
 use std::fmt;
 
@@ -119,6 +119,27 @@ impl Counts {
             no_members: self.no_members,
             send_failed: self.send_failed,
         }
+    }
+}
+
+// The counts of one delivered packet.
+pub(crate) fn one_delivered(bytes: usize) -> Counts
+    ensures counts { result ≡ delivered_one bytes }
+    ensures bounded { plus no_counts result ≡ result }
+{
+    Counts {
+        delivered: 1,
+        bytes: bytes as u64,
+        ..Counts::none()
+    }
+}
+
+pub(crate) fn one_dropped() -> Counts
+    ensures { result ≡ dropped_one }
+{
+    Counts {
+        dropped: 1,
+        ..Counts::none()
     }
 }
 

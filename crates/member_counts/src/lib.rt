@@ -8,6 +8,7 @@ ghost use Rattle.std.specs.Prelude.{◌≡◌};
 mod counts;
 mod key;
 mod log;
+mod numbers;
 mod packed;
 mod table;
 

@@ -1,14 +1,15 @@
 //! The counts of a worker that are not yet in the table (docs/SWITCH.md, "Counters by member").
 
-ghost use Rattle.std.specs.Prelude.{◌≡◌, ◌==◌, ◌&&◌, ◌<◌, ◌≤◌, ◌^◌, ◌↔◌, ◌++◌, ◌∷◌, IfOk, IsTrue, None, Some, [], false, length, true, vec_capacity};
-ghost use Rattle.member_counts.specs.Counts.{delivered_one, dropped_one, no_counts, plus};
-ghost use Rattle.member_counts.specs.Log.{begins_no_run, delivers_again, earlier_runs, last_has, last_run, marked_failed, with_counts, with_no_members, with_verdict};
-ghost use Rattle.member_counts.specs.body.Runs.{IsPacked, group_number, has_run, is_sent, number_of, whole};
+ghost use Rattle.std.specs.Prelude.{◌≡◌, ◌⊎◌, ◌<◌, ◌≤◌, ◌↔◌, ◌++◌, ◌∷◌, IfOk, IsSome, IsTrue, None, Some, [], false, length, vec_capacity};
+ghost use Rattle.member_counts.specs.Counts.{no_counts, plus};
+ghost use Rattle.member_counts.specs.Log.{begins_no_run, cleared, delivers_again, earlier_runs, has_key, last_run, marked_failed, new_log, with_counts, with_no_members, with_verdict};
+ghost use Rattle.member_counts.specs.body.Runs.{IsPacked, group_number, has_run, is_sent, whole};
 ghost use Rattle.member_counts.specs.declared.log.Run.{Run};
 ghost use Rattle.member_counts.specs.declared.packed.TheConstants.{NOTHING};
 
-use crate::counts::Counts;
+use crate::counts::{Counts, one_delivered, one_dropped};
 use crate::key::CountKey;
+use crate::numbers::{NO_MEMBER, group_number, has_numbers, number_of};
 use crate::packed::{NOTHING, packed_one, take_back, unpacked};
 use ipv4_fields::Endpoint;
 use packet_verdict::Verdict;
@@ -40,40 +41,6 @@ impl Run {
             counts: Counts::none(),
         }
     }
-}
-
-// The number of no member. A member's number has 32 bits.
-const NO_MEMBER: u64 = 1 << 32;
-
-// The member's number, in one comparison with another one.
-fn number_of(member: Option<u32>) -> u64
-    ensures { result ≡ number_of member }
-{
-    match member {
-        None => NO_MEMBER,
-        Some(number) => number as u64,
-    }
-}
-
-// The group's key, in one comparison with another one. Both fields lie in the packet's verdict as one word of 64 bits, of which 16 are not
-// used: the processor gets this number by one shift.
-#[inline(always)]
-fn group_number(group: &Endpoint) -> u64
-    ensures number { result ≡ group_number group.now }
-    ensures fits { group.now.address < 2 ^ 32 }
-{
-    u64::from(group.port) * 0x1_0000_0000_0000 + u64::from(group.address) * 0x1_0000
-}
-
-// Tests whether these are the numbers of the member's key.
-#[inline(always)]
-fn has_numbers(last_member: u64, last_group: u64, group: &Endpoint, member: u32) -> bool
-    ensures same { result ≡ (last_member == member) && (last_group == group_number group.now) }
-    ensures fits { group.now.address < 2 ^ 32 }
-    ensures below { member < 2 ^ 32 }
-{
-    let number = group_number(group);
-    last_member == member as u64 && last_group == number
 }
 
 // Returns the last run with the packed packets.
@@ -113,27 +80,6 @@ fn ended_after(sent: bool) -> u128
     ensures bounded { result ≤ NOTHING }
 {
     if sent { 0 } else { NOTHING }
-}
-
-// The counts of one delivered packet.
-fn one_delivered(bytes: usize) -> Counts
-    ensures counts { result ≡ delivered_one bytes }
-    ensures bounded { plus no_counts result ≡ result }
-{
-    Counts {
-        delivered: 1,
-        bytes: bytes as u64,
-        ..Counts::none()
-    }
-}
-
-fn one_dropped() -> Counts
-    ensures { result ≡ dropped_one }
-{
-    Counts {
-        dropped: 1,
-        ..Counts::none()
-    }
 }
 
 // Adds a run to those before the last one. It is not inlined, as the first run of a log does not need it.
@@ -181,6 +127,7 @@ impl Model for VerdictLog {
       entries = runs log.earlier.items (has_run log.has_counts log.packed) (whole log.last log.packed);
       room = log.room;
       sent = is_sent log.packed log.ended;
+      kept = log.last.key;
     } };
 
     ghost invariant = { λ log. (length (runs log.earlier.items (has_run log.has_counts log.packed) (whole log.last log.packed)) ≤ log.room)
@@ -198,7 +145,7 @@ impl Model for VerdictLog {
 impl VerdictLog {
     /// Makes an empty log, and takes the memory for `room` runs. No other call takes memory.
     pub fn new(alloc: Global, room: usize) -> Result<VerdictLog, AllocError>
-        ensures empty { IfOk result (λ log. log ≡ record { entries = []; room = room; sent = false }) }
+        ensures empty { IfOk result (λ log. log ≡ new_log room) }
     {
         Ok(VerdictLog {
             earlier: Vec::with_capacity(alloc, room)?,
@@ -274,7 +221,7 @@ impl VerdictLog {
     fn begin(&mut self, run: Run, sent: bool)
         requires room { length self.old.entries < self.old.room }
         requires bounded { plus no_counts run.counts ≡ run.counts }
-        ensures { self.new ≡ record self.old { entries = self.old.entries ++ run ∷ []; sent = sent } }
+        ensures { self.new ≡ record self.old { entries = self.old.entries ++ run ∷ []; sent = sent; kept = run.key } }
     {
         if has_run(self.has_counts, self.packed) {
             keep(&mut self.earlier, &whole(&self.last, self.packed));
@@ -291,7 +238,7 @@ impl VerdictLog {
     #[inline(never)]
     fn add_again(&mut self, key: &CountKey, counts: Counts, sent: bool) -> bool
         requires { plus no_counts counts ≡ counts }
-        ensures again { last_has key.now self.old.entries ≡ true → result ≡ true }
+        ensures again { (0 < self.old.room) ⊎ IsSome key.now.member → result ≡ has_key key.now self.old }
         ensures counted { IsTrue result → self.new ≡ with_counts key.now counts sent self.old }
         ensures unchanged { result ≡ false → self.new ≡ self.old }
     {
@@ -321,13 +268,11 @@ impl VerdictLog {
         self.begin(Run { key, counts }, sent);
     }
 
-    /// Counts a packet that is delivered to the member of the last run. Returns whether it did. It needs no room; if it returns
-    /// false, call `judged_again`, or make room and call `judged`.
-    ///
-    /// An empty log may count a packet too: if it was cleared, and the packet goes to the member of the last run before that.
+    /// Counts a packet that is delivered to the member of the last run, or, if the log is empty, to that of the last run before it was
+    /// cleared. Returns whether it did. It needs no room; if it returns false, call `judged_again`, or make room and call `judged`.
     #[inline(always)]
     pub fn delivered_again(&mut self, verdict: &Verdict) -> bool
-        ensures again { IsTrue (delivers_again verdict.now self.old.entries) → IsTrue result }
+        ensures again { result ≡ delivers_again verdict.now self.old }
         ensures counted { IsTrue result → self.new ≡ with_verdict verdict.now self.old }
         ensures unchanged { result ≡ false → self.new ≡ self.old }
     {
@@ -355,12 +300,10 @@ impl VerdictLog {
         true
     }
 
-    /// Counts a verdict if no run is begun for it: it names no member, or the member of the last run. Returns whether
-    /// it is counted. It needs no room; if it returns false, make room and call `judged`.
-    ///
-    /// An empty log may count a verdict that names a member too, as `delivered_again` does.
+    /// Counts a verdict if it needs no room: it names no member, or the member of the last run, or, if the log is empty, that of the last
+    /// run before it was cleared. Returns whether it is counted. If it returns false, make room and call `judged`.
     pub fn judged_again(&mut self, verdict: &Verdict) -> bool
-        ensures needs_no_room { IsTrue (begins_no_run verdict.now self.old.entries) → IsTrue result }
+        ensures needs_no_room { result ≡ begins_no_run verdict.now self.old }
         ensures counted { IsTrue result → self.new ≡ with_verdict verdict.now self.old }
         ensures unchanged { result ≡ false → self.new ≡ self.old }
     {
@@ -442,7 +385,7 @@ impl VerdictLog {
     /// Removes all runs.
     #[inline]
     pub fn clear(&mut self)
-        ensures { self.new ≡ record { entries = []; room = self.old.room; sent = false } }
+        ensures { self.new ≡ cleared self.old }
     {
         self.earlier.clear();
         forget(&mut self.last, &mut self.has_counts);

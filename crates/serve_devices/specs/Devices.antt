@@ -1,7 +1,7 @@
 -- What contracts see of the devices of a worker that serves (docs/SWITCH.md, "Devices of a server").
 use Rattle.std.specs.Prelude.{◌==◌, ◌-◌, ◌≡◌, ◌≤◌, ◌⊎◌, ◌∷◌, ◌^◌, if◌then◌else◌, Err, List, None, Ok, Option, Result, Some, [], false, filter_map, length, option_map, suc, take, ℕ}
 use Rattle.dispatch.specs.Device.{OutboxValue, Sent, SourceValue}
-use Rattle.member_counts.specs.Log.{Log, marked_failed}
+use Rattle.member_counts.specs.Log.{Log, marked_failed, new_log}
 use Rattle.serve_devices.specs.Ingress.{IsEnded, Receive}
 use Rattle.serve_devices.specs.declared.member_outbox.TheConstants.{LOG_ROOM}
 use Rattle.serve_devices.specs.declared.worker_source.TheConstants.{RECEIVE_LIMIT}
@@ -54,11 +54,12 @@ pub record MemberOutboxValue : Type 0 where
   pub outbox : OutboxValue
   pub log : Log
 
-abbrev pub empty_log : Log
-empty_log = record { entries = []; room = LOG_ROOM; sent = false }
+-- a log that is handed on keeps its key
+abbrev pub emptied : Log → Log
+emptied log = record { entries = []; room = LOG_ROOM; sent = false; kept = log.kept }
 
 abbrev pub new_outbox : Option (List Sent) → MemberOutboxValue
-new_outbox taken = record { outbox = outbox_with 0 taken; log = empty_log }
+new_outbox taken = record { outbox = outbox_with 0 taken; log = new_log LOG_ROOM }
 
 -- a send that fails is marked in the log
 abbrev pub after_send : {A E : Type 0} → Result A E → Log → Log
@@ -67,7 +68,7 @@ after_send (Err fault) log = marked_failed log
 
 -- the log stays as it was; or it was full, and was handed on
 abbrev pub MakesRoom : Log → Log → Type 0
-MakesRoom log log' = (log' ≡ log) ⊎ ((LOG_ROOM ≤ length log.entries) × (log' ≡ empty_log))
+MakesRoom log log' = (log' ≡ log) ⊎ ((LOG_ROOM ≤ length log.entries) × (log' ≡ emptied log))
 
 -- after that something was logged
 abbrev pub Logs : (Log → Log) → Log → Log → Type 0

@@ -1,11 +1,11 @@
 //! The outbox of a worker that counts by member (docs/SWITCH.md, "Devices of a server"): a socket of its own, a log of its own, and
 //! the table that all workers count in.
 
-ghost use Rattle.std.specs.Prelude.{◌≡◌, ◌<◌, IfOk, [], false, length};
+ghost use Rattle.std.specs.Prelude.{◌≡◌, ◌<◌, IfOk, IsTrue, length};
 ghost use Rattle.dispatch.specs.Device.{CountsFailure, Takes, taken_by};
-ghost use Rattle.member_counts.specs.Log.{with_no_members, with_verdict};
+ghost use Rattle.member_counts.specs.Log.{begins_no_run, cleared, with_no_members, with_verdict};
 ghost use Rattle.member_counts.specs.Table.{CountsLog};
-ghost use Rattle.serve_devices.specs.Devices.{Logs, MakesRoom, after_send, empty_log, new_outbox};
+ghost use Rattle.serve_devices.specs.Devices.{Logs, MakesRoom, after_send, emptied, new_outbox};
 ghost use Rattle.serve_devices.specs.declared.member_outbox.TheConstants.{LOG_ROOM};
 
 use crate::egress::Egress;
@@ -52,7 +52,7 @@ impl<'a, E: Egress + Drop, R: Wait> Model for MemberOutbox<'a, E, R> {
 // Adds the log to the table, and empties it.
 fn hand_log_on(log: &mut VerdictLog, table: &mut MemberTable)
     ensures counted { CountsLog table.old log.old.entries table.new }
-    ensures empty { log.new ≡ record log.old { entries = []; sent = false } }
+    ensures empty { log.new ≡ cleared log.old }
 {
     table.count(log);
     log.clear();
@@ -78,7 +78,7 @@ impl<'a, E: Egress + Drop, R: Wait> MemberOutbox<'a, E, R> {
 
     // Hands the log on, if there is something in it.
     fn empty_log(&mut self)
-        ensures empty { self.new.log ≡ empty_log }
+        ensures empty { self.new.log ≡ emptied self.old.log }
         ensures unchanged { self.new.outbox ≡ self.old.outbox }
     {
         if self.log.is_empty() {
@@ -105,6 +105,7 @@ impl<'a, E: Egress + Drop, R: Wait> MemberOutbox<'a, E, R> {
     fn begin_run(&mut self, verdict: Verdict)
         ensures unchanged { self.new.outbox ≡ self.old.outbox }
         ensures logged { Logs (with_verdict verdict) self.old.log self.new.log }
+        ensures in_place { IsTrue (begins_no_run verdict self.old.log) → self.new.log ≡ with_verdict verdict self.old.log }
     {
         if self.log.judged_again(&verdict) {
             return;
@@ -132,6 +133,7 @@ impl<'a, E: Egress + Drop, R: Wait> Outbox for MemberOutbox<'a, E, R> {
     fn judged(&mut self, verdict: &Verdict)
         ensures unchanged { self.new.outbox ≡ self.old.outbox }
         ensures logged { Logs (with_verdict verdict.now) self.old.log self.new.log }
+        ensures in_place { IsTrue (begins_no_run verdict.now self.old.log) → self.new.log ≡ with_verdict verdict.now self.old.log }
     {
         if !self.log.delivered_again(verdict) {
             self.begin_run(*verdict);
@@ -148,7 +150,7 @@ impl<'a, E: Egress + Drop, R: Wait> Outbox for MemberOutbox<'a, E, R> {
 
     fn hand_on(&mut self)
         ensures unchanged { self.new.outbox ≡ self.old.outbox }
-        ensures handed_on { self.new.log ≡ empty_log }
+        ensures handed_on { self.new.log ≡ emptied self.old.log }
     {
         self.empty_log();
     }

@@ -14,9 +14,9 @@ returns c =
     (c.plus-self-inside.ensures ∙ ap₂ (λ (run : Run) (none : Counts). plus run.counts (record none { send_failed = 1 })) c.whole.ensures c.none.ensures)
     ∙ sum-none (whole inside.last inside.packed).counts failed_one in
     rw (← c.self.view_is)
-    (ap (λ sent. record { entries = inside.earlier.items ++ record inside.last { counts = plus c.plus-self-inside.result no_counts } ∷ []; room = inside.room; sent = sent })
+    (ap (λ sent. record { entries = inside.earlier.items ++ record inside.last { counts = plus c.plus-self-inside.result no_counts } ∷ []; room = inside.room; sent = sent; kept = inside.last.key })
     c.ended_after-self-inside.ensures.sent
     ∙ failed-log inside.earlier.items (has_run inside.has_counts inside.packed) (whole inside.last inside.packed) inside.room
-    (is_sent inside.packed inside.ended) (plus c.plus-self-inside.result no_counts)
+    (is_sent inside.packed inside.ended) inside.last.key (plus c.plus-self-inside.result no_counts)
     (sent-other inside.packed inside.ended (λ same. c.if-self.false (sym same)))
     (λ none. sent-none inside.packed inside.ended _ (c.self.invariant.2 none).1 (c.self.invariant.2 none).2) sum)
