@@ -1,4 +1,5 @@
 pub mod RepliesLemmas
+pub mod CauseLemmas
 mod SummaryLemmas
 mod KindLemmas
 mod LinesLemmas

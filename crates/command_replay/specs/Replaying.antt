@@ -1,7 +1,7 @@
 -- The output of `replay`, by its options `--summary` and `--quiet` (docs/COMMANDS.md, "replay"). If there are two truth values, the
 -- first says that `--summary` is given, the second that `--quiet` is. `known` are the bytes of the input, if they are known.
 -- `before` and `after` are the contents of the output before and after the command, if they are known.
-use Rattle.std.specs.Prelude.{◌≡◌, ◌++◌, ◌⊎◌, Bool, List, Option, [], false, true, ℕ}
+use Rattle.std.specs.Prelude.{◌≡◌, ◌++◌, ◌⊎◌, Bool, Err, List, Ok, Option, Result, [], false, suc, true, ℕ}
 use Rattle.std.specs.Io.KnownBytes.{Appends}
 use Rattle.command_line.specs.Ending.{AppendsBeginning}
 use Rattle.command_line.specs.declared.ending.Failure.{Failure}
@@ -11,6 +11,7 @@ use Rattle.command_line.specs.declared.ending.Status.TheVariants.{Done}
 use Rattle.control.specs.Script.{AreAnswered, IsScriptText, Standing}
 use Rattle.control_summary.specs.Summary.{IsSummaryOf}
 use Rattle.command_line.specs.Input.{BeginsInput, IsInput}
+use Rattle.command_streams.specs.Failures.{FailuresValue, HasCause, one_more}
 
 -- the input was read to its end, and these are the replies to all its requests
 pub record AreRepliesTo (known : Option (List ℕ)) (replies : List ℕ) : Type 0 where
@@ -107,3 +108,21 @@ ReplayWritesBefore false false failure known before after = RepliesBefore failur
 ReplayWritesBefore true false failure known before after = RepliesAndSummaryBefore failure known before after
 ReplayWritesBefore true true failure known before after = SummaryBefore failure known before after
 ReplayWritesBefore false true failure known before after = NothingBefore failure known before after
+
+-- ---- which device made it fail
+
+-- at most one more failed
+abbrev pub FailsOnceMore : FailuresValue → FailuresValue → Type 0
+FailsOnceMore before after = (after ≡ before) ⊎ (after ≡ one_more before)
+
+-- as `HasCause`, but the replies are flushed also after a failure, and that flush may fail, too
+abbrev pub HasCauseThenFlush : {A : Type 0} → Result A Failure → ℕ → ℕ → FailuresValue → FailuresValue → Type 0
+HasCauseThenFlush (Ok answer) read read' written written' = (read' ≡ read) × (written' ≡ written)
+HasCauseThenFlush (Err ReadFailed) read read' written written' = (read' ≡ suc read) × FailsOnceMore written written'
+HasCauseThenFlush (Err WriteFailed) read read' written written' = (read' ≡ read) × FailsOnceMore (one_more written) written'
+HasCauseThenFlush (Err failure) read read' written written' = (read' ≡ read) × FailsOnceMore written written'
+
+-- with `--quiet` there are no replies to flush
+abbrev pub ReplayHasCause : {A : Type 0} → Bool → Result A Failure → ℕ → ℕ → FailuresValue → FailuresValue → Type 0
+ReplayHasCause false result read read' written written' = HasCauseThenFlush result read read' written written'
+ReplayHasCause true result read read' written written' = HasCause result read read' written written'

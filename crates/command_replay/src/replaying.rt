@@ -1,8 +1,8 @@
 //! The command `replay`: a script on standard input, its replies on standard output (docs/COMMANDS.md, "replay").
 
 ghost use Rattle.std.specs.Prelude.{◌≡◌, IfErr, IfOk, false};
-ghost use Rattle.command_streams.specs.Failures.{HasCause, known_after};
-ghost use Rattle.command_replay.specs.Replaying.{RepliesBefore, ReplayMayFail, ReplayWritesBefore, WritesScript};
+ghost use Rattle.command_streams.specs.Failures.{known_after};
+ghost use Rattle.command_replay.specs.Replaying.{HasCauseThenFlush, RepliesBefore, ReplayHasCause, ReplayMayFail, ReplayWritesBefore, WritesScript};
 ghost use Rattle.command_replay.specs.body.Failing.{failure_of_replay};
 
 use crate::reply_output::{Opened, ReplyOutput};
@@ -24,7 +24,8 @@ pub fn run_replay<R: Input, W: CountedWrite>(
     out: &mut W,
 ) -> Result<Status, Failure>
     ensures failed { IfErr result (ReplayMayFail) }
-    ensures device_failed { HasCause result (R.state input.old).failures (R.state input.new).failures (W.failures out.old) (W.failures out.new) }
+    ensures device_failed { ReplayHasCause quiet result (R.state input.old).failures (R.state input.new).failures
+        (W.failures out.old) (W.failures out.new) }
     ensures failed_written { IfErr result (λ failure.
         ReplayWritesBefore summary quiet failure (known_after (R.state input.old) (R.state input.new)) (W.contents out.old) (W.contents out.new)) }
     ensures written { IfOk result (λ status.
@@ -46,7 +47,8 @@ fn replay_written<L: Opened, R: Input, W: CountedWrite>(
 ) -> Result<Status, Failure>
     requires { L.failures ≡ W.failures out.old }
     ensures failed { IfErr result (ReplayMayFail) }
-    ensures device_failed { HasCause result (R.state input.old).failures (R.state input.new).failures (W.failures out.old) (W.failures out.new) }
+    ensures device_failed { HasCauseThenFlush result (R.state input.old).failures (R.state input.new).failures
+        (W.failures out.old) (W.failures out.new) }
     ensures failed_written { IfErr result (λ failure.
         RepliesBefore failure (known_after (R.state input.old) (R.state input.new)) (W.contents out.old) (W.contents out.new)) }
     ensures written { IfOk result (λ status.

@@ -3,7 +3,7 @@
 ghost use Rattle.std.specs.Prelude.{◌≡◌, ◌⊎◌, Err, IfErr, IfOk, OnOk, false, true};
 ghost use Rattle.std.specs.Io.KnownBytes.{Appends};
 ghost use Rattle.command_streams.specs.Failures.{HasCause, OutputFails, known_after};
-ghost use Rattle.command_replay.specs.Replaying.{AreRepliesTo, RepliesBefore, ReplayMayFail, ReplayWritesBefore, WritesScript};
+ghost use Rattle.command_replay.specs.Replaying.{AreRepliesTo, HasCauseThenFlush, RepliesBefore, ReplayMayFail, ReplayWritesBefore, WritesScript};
 ghost use Rattle.command_replay.specs.body.Summarizing.{WritesSummary, BeginsSummary};
 
 use crate::counted_output::CountedOutput;
@@ -24,7 +24,8 @@ pub fn summarize_replies<R: Input, W: CountedWrite>(
     out: &mut W,
 ) -> Result<Status, Failure>
     ensures failed { IfErr result (ReplayMayFail) }
-    ensures device_failed { HasCause result (R.state input.old).failures (R.state input.new).failures (W.failures out.old) (W.failures out.new) }
+    ensures device_failed { HasCauseThenFlush result (R.state input.old).failures (R.state input.new).failures
+        (W.failures out.old) (W.failures out.new) }
     ensures failed_written { IfErr result (λ failure.
         ReplayWritesBefore true false failure (known_after (R.state input.old) (R.state input.new)) (W.contents out.old) (W.contents out.new)) }
     ensures written { IfOk result (λ status. WritesScript true false (R.state input.old).coming status (W.contents out.old) (W.contents out.new)) }
@@ -58,7 +59,8 @@ fn count_written<L: Opened, R: Input, W: CountedWrite>(
     requires contents { L.contents ≡ W.contents out.old }
     requires failures { L.failures ≡ W.failures out.old }
     ensures failed { IfErr result (ReplayMayFail) }
-    ensures device_failed { HasCause result (R.state input.old).failures (R.state input.new).failures (W.failures out.old) (W.failures out.new) }
+    ensures device_failed { HasCauseThenFlush result (R.state input.old).failures (R.state input.new).failures
+        (W.failures out.old) (W.failures out.new) }
     ensures failed_written { IfErr result (λ failure.
         RepliesBefore failure (known_after (R.state input.old) (R.state input.new)) (W.contents out.old) (W.contents out.new)) }
     ensures replied { IfOk result (AreRepliesTo (R.state input.old).coming) }

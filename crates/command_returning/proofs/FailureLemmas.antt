@@ -19,9 +19,10 @@ use Rattle.command_query.specs.Query.{IsAnswerText, MayFail, QueryWritesBefore}
 use Rattle.command_streams.specs.Failures.{FailuresValue, HasCause, OutputFails, known_after}
 use Rattle.command_streams.proofs.FailureLemmas.{is_known_after, write_cause}
 use Rattle.control.specs.Streams.{InputValue}
-use Rattle.command_replay.specs.Replaying.{ReplayMayFail}
+use Rattle.command_replay.specs.Replaying.{HasCauseThenFlush, ReplayMayFail}
+use Rattle.command_replay.proofs.CauseLemmas.{replay_then_flush, then_flush}
 use Rattle.command_replay.proofs.RepliesLemmas.{begins_with_none}
-use Rattle.command_returning.specs.Request.{AskToWait, EndsInFailure, EndsWithCause, MayFailBy, Writes, WritesBefore, WritesBeforeBy}
+use Rattle.command_returning.specs.Request.{AskToWait, EndsInFailure, EndsWithCause, HasCauseBy, HasCauseOf, MayFailBy, Writes, WritesBefore, WritesBeforeBy}
 
 -- where the words have a fault, they ask for no command that may wait
 text_may_fail : (words : List Text) (fault : Error) (failure : Failure) → HasKind (faults_in words) fault
@@ -206,19 +207,49 @@ fault_failed errors contents errs mid out out' words fault (Err failure) status 
 
 -- ---- and by which device
 
+-- the cause of a command, whose last flush may fail, too
+pub command_then_flush : (request : Request) (ended : Result Status Failure) (read read' : ℕ) (wrote wrote' : FailuresValue) → HasCauseOf request ended read read' wrote wrote'
+    → HasCauseThenFlush ended read read' wrote wrote'
+command_then_flush first ended read read' wrote wrote' cause = then_flush ended read read' wrote wrote' cause
+command_then_flush (check name) ended read read' wrote wrote' cause = then_flush ended read read' wrote wrote' cause
+command_then_flush (compile expression name) ended read read' wrote wrote' cause = then_flush ended read read' wrote wrote' cause
+command_then_flush (run digits name) ended read read' wrote wrote' cause = then_flush ended read read' wrote wrote' cause
+command_then_flush (judge digits expression) ended read read' wrote wrote' cause = then_flush ended read read' wrote wrote' cause
+command_then_flush (pack source destination digits text) ended read read' wrote wrote' cause = then_flush ended read read' wrote wrote' cause
+command_then_flush (explain code) ended read read' wrote wrote' cause = then_flush ended read read' wrote wrote' cause
+command_then_flush (packets unwrap) ended read read' wrote wrote' cause = then_flush ended read read' wrote wrote' cause
+command_then_flush (spread depth by shares) ended read read' wrote wrote' cause = then_flush ended read read' wrote wrote' cause
+command_then_flush (replay summary quiet) ended read read' wrote wrote' cause = replay_then_flush quiet ended read read' wrote wrote' cause
+
+pub words_then_flush : (words : List Text) (ended : Result Status Failure) (read read' : ℕ) (wrote wrote' : FailuresValue) → HasCauseBy words ended read read' wrote wrote'
+    → HasCauseThenFlush ended read read' wrote wrote'
+words_then_flush words ended read read' wrote wrote' (inl (request, none, named, cause)) = command_then_flush request ended read read' wrote wrote' cause
+words_then_flush words ended read read' wrote wrote' (inr cause) = then_flush ended read read' wrote wrote' cause
+
+pub query_cause : (it : Query) (ended : Result Status Failure) (read read' : ℕ) (wrote wrote' : FailuresValue) → HasCause ended read read' wrote wrote'
+    → HasCauseOf (query_request it) ended read read' wrote wrote'
+query_cause query.First ended read read' wrote wrote' cause = cause
+query_cause (query.Check _) ended read read' wrote wrote' cause = cause
+query_cause (query.Compile _ _) ended read read' wrote wrote' cause = cause
+query_cause (query.Run _ _) ended read read' wrote wrote' cause = cause
+query_cause (query.Judge _ _) ended read read' wrote wrote' cause = cause
+query_cause (query.Pack _ _ _ _) ended read read' wrote wrote' cause = cause
+query_cause (query.Explain _) ended read read' wrote wrote' cause = cause
+query_cause (query.Spread _) ended read read' wrote wrote' cause = cause
+
 pub command_caused : {X : Type 0} (errors : X → Option (List ℕ)) (errs mid : X) (words : List Text) (request : Request) (ended : Result Status Failure) (status : Status)
     (known whole before after told_after : Option (List ℕ)) (read read' : ℕ) (wrote wrote' : FailuresValue)
     → command_in words ≡ Some (returning request) → IfErr ended (MayFail request) → IfErr ended (λ failure. WritesBefore request failure known before after)
     → OnErr ended (mid ≡ errs) → IfErr ended (λ failure. AppendsBeginning (errors mid) told_after (line_of failure))
     → IfOk ended (λ given. status ≡ given) → IfOk ended (λ given. Writes request whole given before after) → status ≡ Failed
-    → HasCause ended read read' wrote wrote'
+    → faults_in words ≡ [] → HasCauseOf request ended read read' wrote wrote'
     → EndsWithCause words known before after (errors errs) told_after read read' wrote wrote'
 unfolding command_failed
-command_caused errors errs mid words request (Ok given) status known whole before after told_after read read' wrote wrote' named may written untold told is writes failed cause =
+command_caused errors errs mid words request (Ok given) status known whole before after told_after read read' wrote wrote' named may written untold told is writes failed none cause =
     absurd (never_failed request whole before after (subst (λ s. Writes request whole s before after) (sym is ∙ failed) writes))
-command_caused errors errs mid words request (Err failure) status known whole before after told_after read read' wrote wrote' named may written untold told is writes failed cause = record {
+command_caused errors errs mid words request (Err failure) status known whole before after told_after read read' wrote wrote' named may written untold told is writes failed none cause = record {
   ends = command_failed errors errs mid words request (Err failure) status known whole before after told_after named may written untold told is writes failed;
-  cause = cause;
+  cause = inl (request, none, named, cause);
 }
 
 pub fault_caused : {X Y : Type 0} (errors : X → Option (List ℕ)) (contents : Y → Option (List ℕ)) (errs mid : X) (out out' : Y) (words : List Text) (fault : Error)
@@ -234,22 +265,16 @@ fault_caused errors contents errs mid out out' words fault (Ok given) status kno
     elim ends [ inl done ↦ let same : ◌≡◌ {A = Status} Failed Done = sym failed ∙ is ∙ done in cc | inr misused ↦ let same : ◌≡◌ {A = Status} Failed Misused = sym failed ∙ is ∙ misused in cc ]
 fault_caused errors contents errs mid out out' words fault (Err failure) status known told_after read wrote wrote' kinds either memory untold told is ends failed output = record {
   ends = fault_failed errors contents errs mid out out' words fault (Err failure) status known told_after kinds either memory untold told is ends failed;
-  cause = write_cause {A = Status} (Err failure) read read wrote wrote' either refl output;
+  cause = inr (write_cause {A = Status} (Err failure) read read wrote wrote' either refl output);
 }
 
 -- ---- a new input and a new output
 
 -- an input that failed at most once is known as it was
-pub known_of_new : (input input' : InputValue) (failure : Failure) (wrote wrote' : FailuresValue) → input.failures ≡ 0 → HasCause {A = Status} (Err failure) input.failures input'.failures wrote wrote'
+pub known_of_new : (input input' : InputValue) → input.failures ≡ 0 → (input'.failures ≡ input.failures) ⊎ (input'.failures ≡ suc input.failures)
     → known_after input input' ≡ input.coming
-known_of_new input input' ReadFailed wrote wrote' new cause = ap (λ n. known_after input (record { failures = n; coming = input'.coming; left = input'.left })) (cause.0 ∙ ap suc new)
-known_of_new input input' WriteFailed wrote wrote' new cause = ap (λ n. known_after input (record { failures = n; coming = input'.coming; left = input'.left })) (cause.0 ∙ new)
-known_of_new input input' OutOfMemory wrote wrote' new cause = ap (λ n. known_after input (record { failures = n; coming = input'.coming; left = input'.left })) (cause.0 ∙ new)
-known_of_new input input' SpawnFailed wrote wrote' new cause = ap (λ n. known_after input (record { failures = n; coming = input'.coming; left = input'.left })) (cause.0 ∙ new)
-known_of_new input input' BindFailed wrote wrote' new cause = ap (λ n. known_after input (record { failures = n; coming = input'.coming; left = input'.left })) (cause.0 ∙ new)
-known_of_new input input' PollFailed wrote wrote' new cause = ap (λ n. known_after input (record { failures = n; coming = input'.coming; left = input'.left })) (cause.0 ∙ new)
-known_of_new input input' NoAnswer wrote wrote' new cause = ap (λ n. known_after input (record { failures = n; coming = input'.coming; left = input'.left })) (cause.0 ∙ new)
-known_of_new input input' RulesChanged wrote wrote' new cause = ap (λ n. known_after input (record { failures = n; coming = input'.coming; left = input'.left })) (cause.0 ∙ new)
+known_of_new input input' new (inl same) = ap (λ n. known_after input (record { failures = n; coming = input'.coming; left = input'.left })) (same ∙ new)
+known_of_new input input' new (inr once) = ap (λ n. known_after input (record { failures = n; coming = input'.coming; left = input'.left })) (once ∙ ap suc new)
 
 -- what holds of their bytes holds of the bytes of the reader and the writer
 pub of_streams : (P : Option (List ℕ) → Option (List ℕ) → Option (List ℕ) → Type 0) (known known' before before' after after' : Option (List ℕ))

@@ -1,7 +1,7 @@
 -- The effect of a command, by its words and its input: what it writes, and how it may fail (docs/COMMANDS.md). `known` are the bytes of
 -- the input, if they are known. `before` and `after` are the contents of the output before and after the command, if they are known;
 -- `told_before` and `told_after` are the same of standard error.
-use Rattle.std.specs.Prelude.{◌≡◌, ◌⊎◌, Err, List, Option, Some, [], ℕ}
+use Rattle.std.specs.Prelude.{◌≡◌, ◌⊎◌, Err, List, Option, Result, Some, [], ℕ}
 use Rattle.clap.specs.Words.{Text}
 use Rattle.command_line.specs.declared.ending.Failure.{Failure}
 use Rattle.command_line.specs.declared.ending.Failure.TheVariants.{BindFailed, NoAnswer, OutOfMemory, PollFailed, ReadFailed, RulesChanged, SpawnFailed, WriteFailed}
@@ -10,7 +10,7 @@ use Rattle.command_line.specs.CommandLine.{Request, WaitingRequest, command_in, 
 use Rattle.command_line.specs.Ending.{AppendsBeginning, line_of}
 use Rattle.command_line.specs.Input.{IsInput}
 use Rattle.command_streams.specs.Failures.{FailuresValue, HasCause}
-use Rattle.command_replay.specs.Replaying.{ReplayWritesBefore, WritesScript}
+use Rattle.command_replay.specs.Replaying.{ReplayHasCause, ReplayWritesBefore, WritesScript}
 use Rattle.packet_capture.specs.Packets.{TellsCounts, WritesBeginning, WritesFirst, WritesText}
 use Rattle.command_query.specs.Query.{QueryWritesBefore, ReadsInput, WritesAnswer}
 
@@ -83,8 +83,21 @@ pub record EndsInFailure (words : List Text) (known before after told_before tol
   pub written : WritesBeforeBy words failure known before after
   pub told : AppendsBeginning told_before told_after (line_of failure)
 
--- a command failed so, and by a device that failed; `read` and `read'` are the failures of its input before and after it, `wrote` and
--- `wrote'` those of its output
+-- ---- which device made it fail; `read` and `read'` are the failures of its input before and after it, `wrote` and `wrote'` those of
+-- its output
+
+-- of a command with this request, `replay` alone may also fail to flush its output at its end
+abbrev pub HasCauseOf : Request → Result Status Failure → ℕ → ℕ → FailuresValue → FailuresValue → Type 0
+HasCauseOf (replay summary quiet) ended read read' wrote wrote' = ReplayHasCause quiet ended read read' wrote wrote'
+HasCauseOf request ended read read' wrote wrote' = HasCause ended read read' wrote wrote'
+
+-- the same of the command that the words name, or of a text
+abbrev pub HasCauseBy : List Text → Result Status Failure → ℕ → ℕ → FailuresValue → FailuresValue → Type 0
+HasCauseBy words ended read read' wrote wrote' =
+    ((request : Request) × (faults_in words ≡ []) × (command_in words ≡ Some (returning request)) × HasCauseOf request ended read read' wrote wrote')
+    ⊎ HasCause ended read read' wrote wrote'
+
+-- a command failed so, and by a device that failed
 pub record EndsWithCause (words : List Text) (known before after told_before told_after : Option (List ℕ)) (read read' : ℕ) (wrote wrote' : FailuresValue) : Type 0 where
   pub ends : EndsInFailure words known before after told_before told_after
-  pub cause : HasCause {A = Status} (Err ends.failure) read read' wrote wrote'
+  pub cause : HasCauseBy words (Err ends.failure) read read' wrote wrote'

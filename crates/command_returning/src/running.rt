@@ -4,9 +4,10 @@ ghost use Rattle.std.specs.Prelude.{◌≡◌, ◌≢◌, ◌⊎◌, [], IfErr, 
 ghost use Rattle.clap.specs.Words.{kind_of};
 ghost use Rattle.command_line.specs.CommandLine.{AsksForText, HasMisuse, command_in, faults_in, packets, request_of, returning, waiting, waiting_of};
 ghost use Rattle.command_line.specs.Ending.{IsStatus, code_of};
-ghost use Rattle.command_streams.specs.Failures.{HasCause, OutputFails, known_after};
+ghost use Rattle.command_streams.specs.Failures.{OutputFails, known_after};
 ghost use Rattle.command_query.specs.Query.{MayFail};
-ghost use Rattle.command_returning.specs.Request.{AskToWait, EndsInFailure, EndsWithCause, TellsCountsOf, Writes, WritesAnswerTo, WritesBefore};
+ghost use Rattle.command_returning.specs.Request.{AskToWait, EndsInFailure, EndsWithCause, HasCauseOf, TellsCountsOf, Writes};
+ghost use Rattle.command_returning.specs.Request.{WritesAnswerTo, WritesBefore};
 
 use crate::capturing::run_packets;
 use clap::error::ErrorKind;
@@ -82,7 +83,8 @@ fn run_command<R: Input, W: CountedWrite, E: Write>(
     ensures no_errors { OnOk result (((port : Option ℕ) → request_of command.entry ≢ packets port) → errs.new ≡ errs.old) }
     ensures untold { OnErr result (errs.new ≡ errs.old) }
     ensures failed { IfErr result (MayFail (request_of command.entry)) }
-    ensures device_failed { HasCause result (R.state input.old).failures (R.state input.new).failures (W.failures out.old) (W.failures out.new) }
+    ensures device_failed { HasCauseOf (request_of command.entry) result (R.state input.old).failures (R.state input.new).failures
+        (W.failures out.old) (W.failures out.new) }
     ensures failed_written { IfErr result (λ failure.
         WritesBefore (request_of command.entry) failure (known_after (R.state input.old) (R.state input.new)) (W.contents out.old) (W.contents out.new)) }
     ensures written { IfOk result (λ status.

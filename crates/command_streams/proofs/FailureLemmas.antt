@@ -6,7 +6,7 @@ use Rattle.control.specs.Streams.{InputValue}
 use Rattle.command_line.specs.Input.{IsInput}
 use Rattle.command_line.specs.declared.ending.Failure.{Failure}
 use Rattle.command_line.specs.declared.ending.Failure.TheVariants.{BindFailed, NoAnswer, OutOfMemory, PollFailed, ReadFailed, RulesChanged, SpawnFailed, WriteFailed}
-use Rattle.command_streams.specs.Failures.{FailsOnceMore, FailuresValue, HasCause, InputFails, OutputFails, known_after, one_more}
+use Rattle.command_streams.specs.Failures.{FailuresValue, HasCause, InputFails, OutputFails, known_after}
 
 -- what is known of an input after a call is known of it before
 pub is_known_after : (input input' : InputValue) (bytes : List ℕ) → IsInput input.coming bytes → IsInput (known_after input input') bytes
@@ -21,41 +21,37 @@ pub write_cause : {A : Type 0} (result : Result A Failure) (read read' : ℕ) (w
     → OutputFails result written written' → HasCause result read read' written written'
 write_cause (Ok answer) read read' written written' failed kept output = (kept, output)
 write_cause (Err ReadFailed) read read' written written' failed kept output = elim failed [ inl e ↦ cc | inr e ↦ cc ]
-write_cause (Err WriteFailed) read read' written written' failed kept output = (kept, inl output)
-write_cause (Err OutOfMemory) read read' written written' failed kept output = (kept, inl output)
-write_cause (Err SpawnFailed) read read' written written' failed kept output = (kept, inl output)
-write_cause (Err BindFailed) read read' written written' failed kept output = (kept, inl output)
-write_cause (Err PollFailed) read read' written written' failed kept output = (kept, inl output)
-write_cause (Err NoAnswer) read read' written written' failed kept output = (kept, inl output)
-write_cause (Err RulesChanged) read read' written written' failed kept output = (kept, inl output)
+write_cause (Err WriteFailed) read read' written written' failed kept output = (kept, output)
+write_cause (Err OutOfMemory) read read' written written' failed kept output = (kept, output)
+write_cause (Err SpawnFailed) read read' written written' failed kept output = (kept, output)
+write_cause (Err BindFailed) read read' written written' failed kept output = (kept, output)
+write_cause (Err PollFailed) read read' written written' failed kept output = (kept, output)
+write_cause (Err NoAnswer) read read' written written' failed kept output = (kept, output)
+write_cause (Err RulesChanged) read read' written written' failed kept output = (kept, output)
 
 -- only a read may have failed
 pub read_cause : {A : Type 0} (result : Result A Failure) (read read' : ℕ) (written : FailuresValue) → IfErr result (λ failure. (failure ≡ ReadFailed) ⊎ (failure ≡ OutOfMemory))
     → InputFails result read read' → HasCause result read read' written written
 read_cause (Ok answer) read read' written failed input = (input, refl)
-read_cause (Err ReadFailed) read read' written failed input = (input, inl refl)
+read_cause (Err ReadFailed) read read' written failed input = (input, refl)
 read_cause (Err WriteFailed) read read' written failed input = elim failed [ inl e ↦ cc | inr e ↦ cc ]
-read_cause (Err OutOfMemory) read read' written failed input = (input, inl refl)
-read_cause (Err SpawnFailed) read read' written failed input = (input, inl refl)
-read_cause (Err BindFailed) read read' written failed input = (input, inl refl)
-read_cause (Err PollFailed) read read' written failed input = (input, inl refl)
-read_cause (Err NoAnswer) read read' written failed input = (input, inl refl)
-read_cause (Err RulesChanged) read read' written failed input = (input, inl refl)
+read_cause (Err OutOfMemory) read read' written failed input = (input, refl)
+read_cause (Err SpawnFailed) read read' written failed input = (input, refl)
+read_cause (Err BindFailed) read read' written failed input = (input, refl)
+read_cause (Err PollFailed) read read' written failed input = (input, refl)
+read_cause (Err NoAnswer) read read' written failed input = (input, refl)
+read_cause (Err RulesChanged) read read' written failed input = (input, refl)
 
 -- ---- the borrow stays the same
-
-fails_borrow : (before after : FailuresValue) → FailsOnceMore before after → after.borrow ≡ before.borrow
-fails_borrow before after (inl same) = ap (λ (f : FailuresValue). f.borrow) same
-fails_borrow before after (inr more) = ap (λ (f : FailuresValue). f.borrow) more
 
 pub cause_borrow : {A : Type 0} (result : Result A Failure) (read read' : ℕ) (written written' : FailuresValue) → HasCause result read read' written written'
     → written'.borrow ≡ written.borrow
 cause_borrow (Ok answer) read read' written written' cause = ap (λ (f : FailuresValue). f.borrow) cause.1
-cause_borrow (Err ReadFailed) read read' written written' cause = fails_borrow written written' cause.1
-cause_borrow (Err WriteFailed) read read' written written' cause = fails_borrow (one_more written) written' cause.1
-cause_borrow (Err OutOfMemory) read read' written written' cause = fails_borrow written written' cause.1
-cause_borrow (Err SpawnFailed) read read' written written' cause = fails_borrow written written' cause.1
-cause_borrow (Err BindFailed) read read' written written' cause = fails_borrow written written' cause.1
-cause_borrow (Err PollFailed) read read' written written' cause = fails_borrow written written' cause.1
-cause_borrow (Err NoAnswer) read read' written written' cause = fails_borrow written written' cause.1
-cause_borrow (Err RulesChanged) read read' written written' cause = fails_borrow written written' cause.1
+cause_borrow (Err ReadFailed) read read' written written' cause = ap (λ (f : FailuresValue). f.borrow) cause.1
+cause_borrow (Err WriteFailed) read read' written written' cause = ap (λ (f : FailuresValue). f.borrow) cause.1
+cause_borrow (Err OutOfMemory) read read' written written' cause = ap (λ (f : FailuresValue). f.borrow) cause.1
+cause_borrow (Err SpawnFailed) read read' written written' cause = ap (λ (f : FailuresValue). f.borrow) cause.1
+cause_borrow (Err BindFailed) read read' written written' cause = ap (λ (f : FailuresValue). f.borrow) cause.1
+cause_borrow (Err PollFailed) read read' written written' cause = ap (λ (f : FailuresValue). f.borrow) cause.1
+cause_borrow (Err NoAnswer) read read' written written' cause = ap (λ (f : FailuresValue). f.borrow) cause.1
+cause_borrow (Err RulesChanged) read read' written written' cause = ap (λ (f : FailuresValue). f.borrow) cause.1

@@ -1,5 +1,5 @@
 -- Which device made a command fail: how often reads of its input failed, and writes and flushes of its output.
-use Rattle.std.specs.Prelude.{◌≡◌, ◌+◌, ◌⊎◌, Err, List, Ok, Option, Result, min, suc, ℕ}
+use Rattle.std.specs.Prelude.{◌≡◌, ◌+◌, Err, List, Ok, Option, Result, min, suc, ℕ}
 use Rattle.std.specs.Borrow.{GName}
 use Rattle.dispatch.specs.Memory.{MOST_FAILURES}
 use Rattle.control.specs.Streams.{InputValue, told_after}
@@ -32,17 +32,13 @@ OutputFails (Ok answer) before after = after ≡ before
 OutputFails (Err WriteFailed) before after = after ≡ one_more before
 OutputFails (Err failure) before after = after ≡ before
 
--- at most one more failed: the flush that ends a command which has failed already
-abbrev pub FailsOnceMore : FailuresValue → FailuresValue → Type 0
-FailsOnceMore before after = (after ≡ before) ⊎ (after ≡ one_more before)
-
--- a command fails to read only if a read failed, and fails to write only if no read and a write or flush failed; `read` and `read'` are
--- the failures of its input before and after it, `written` and `written'` those of its output
+-- a command fails to read only if one read failed, and fails to write only if one write or flush failed, and else none failed; `read`
+-- and `read'` are the failures of its input before and after it, `written` and `written'` those of its output
 abbrev pub HasCause : {A : Type 0} → Result A Failure → ℕ → ℕ → FailuresValue → FailuresValue → Type 0
 HasCause (Ok answer) read read' written written' = (read' ≡ read) × (written' ≡ written)
-HasCause (Err ReadFailed) read read' written written' = (read' ≡ suc read) × FailsOnceMore written written'
-HasCause (Err WriteFailed) read read' written written' = (read' ≡ read) × FailsOnceMore (one_more written) written'
-HasCause (Err failure) read read' written written' = (read' ≡ read) × FailsOnceMore written written'
+HasCause (Err ReadFailed) read read' written written' = (read' ≡ suc read) × (written' ≡ written)
+HasCause (Err WriteFailed) read read' written written' = (read' ≡ read) × (written' ≡ one_more written)
+HasCause (Err failure) read read' written written' = (read' ≡ read) × (written' ≡ written)
 
 -- the bytes of an input that are known after a call: none, if its failures are as many as can be counted
 abbrev pub known_after : InputValue → InputValue → Option (List ℕ)

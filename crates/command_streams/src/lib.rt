@@ -1,4 +1,4 @@
-//! The input and the output of a command that does not wait, as contracts see them: their bytes, and how often each failed.
+//! The input and the output of a command, as contracts see them: their bytes, and how often each failed.
 //!
 //! `CountedWrite` is the destination of results, and `CountedWriter` one over a writer. `read_all` reads an input whole; `write_whole`
 //! and `write_through` write a text. So contracts can say that a command fails with E1 only if a read failed, and with E2 only if a

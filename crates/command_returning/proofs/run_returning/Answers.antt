@@ -1,7 +1,9 @@
 use Rattle.std.proofs.Common.{◌≡◌, ◌∙◌, ap, map, rules, string_bytes}
+use Rattle.command_line.specs.declared.ending.Status.{Status}
 use Rattle.command_line.specs.declared.ending.Status.TheVariants.{Done, Refused}
 use Rattle.command_returning.specs.Request.{EndsInFailure, WritesAnswerTo}
-use Rattle.command_returning.proofs.FailureLemmas.{known_of_new, of_streams}
+use Rattle.command_replay.proofs.CauseLemmas.{reads_once}
+use Rattle.command_returning.proofs.FailureLemmas.{known_of_new, of_streams, words_then_flush}
 use Rattle.command_returning.proofs.run_returning.Goals as goal
 
 pub returns-clause-done_written : goal.returns-clause-done_written
@@ -25,7 +27,8 @@ pub returns-clause-failed : goal.returns-clause-failed
 returns-clause-failed g c = λ three.
     let ends = c.run_over-ended.ensures.device_failed three in
     of_streams (λ known before after. EndsInFailure (map string_bytes c.args.words.now) known before after (g.E.Write.contents c.args.errs.now) (g.E.Write.contents c.run_over-ended.new.errs)) _ _ _ _ _ _
-    (known_of_new c.new.result c.run_over-ended.new.input ends.ends.failure _ _ (ap (λ v. v.failures) c.new.ensures.opened) ends.cause ∙ ap (λ v. v.coming) c.new.ensures.opened)
+    (known_of_new c.new.result c.run_over-ended.new.input (ap (λ v. v.failures) c.new.ensures.opened)
+    (reads_once Status ends.ends.failure _ _ _ _ (words_then_flush (map string_bytes c.args.words.now) _ _ _ _ _ ends.cause)) ∙ ap (λ v. v.coming) c.new.ensures.opened)
     (ap (λ v. g.W.Write.contents v.writer) c.new-writer.ensures.opened) (search rules)
     ends.ends
 

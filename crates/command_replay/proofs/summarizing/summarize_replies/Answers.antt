@@ -1,6 +1,8 @@
 use Rattle.std.proofs.Common.{ap, rules, subst}
-use Rattle.command_streams.specs.Failures.{HasCause, known_after}
+use Rattle.command_streams.specs.Failures.{known_after}
 use Rattle.command_streams.proofs.FailureLemmas.{write_cause}
+use Rattle.command_replay.specs.Replaying.{HasCauseThenFlush}
+use Rattle.command_replay.proofs.CauseLemmas.{then_flush}
 use Rattle.command_replay.proofs.RepliesLemmas.{answered_known}
 use Rattle.command_replay.proofs.SummaryLemmas.{done_behind, told_behind}
 use Rattle.command_replay.proofs.summarizing.summarize_replies.Goals as goal
@@ -26,8 +28,9 @@ returns-clause-device_failed g c =
     let input = g.R.Input.state c.args.input.now in let input' = g.R.Input.state c.count_written.new.input in
     let counted = c.in_ok-counts.ensures in
     let told = c.write_summary.ensures in
-    subst (λ wrote. HasCause c.write_summary.result input.failures input'.failures wrote (g.W.CountedWrite.failures c.write_summary.new.out)) counted.device_failed.1
-    (write_cause c.write_summary.result input.failures input'.failures _ _ told.failed counted.device_failed.0 told.device_failed)
+    subst (λ wrote. HasCauseThenFlush c.write_summary.result input.failures input'.failures wrote (g.W.CountedWrite.failures c.write_summary.new.out)) counted.device_failed.1
+    (then_flush c.write_summary.result input.failures input'.failures _ _
+    (write_cause c.write_summary.result input.failures input'.failures _ _ told.failed counted.device_failed.0 told.device_failed))
 
 pub returns-clause-failed : goal.returns-clause-failed
 returns-clause-failed g c = search rules

@@ -1,6 +1,6 @@
 use Rattle.std.proofs.Common.{◌∙◌, ap, sym}
 use Rattle.command_line.specs.CommandLine.{request_of}
-use Rattle.command_returning.proofs.FailureLemmas.{query_fails, replay_fails}
+use Rattle.command_returning.proofs.FailureLemmas.{query_cause, query_fails, replay_fails}
 use Rattle.command_returning.proofs.PacketsLemmas.{of_another, of_no_other, of_packets, query_differs, replay_differs}
 use Rattle.command_returning.proofs.running.run_command.Goals as goal
 
@@ -21,3 +21,6 @@ returns-in-Packets-clause-counted g c = of_packets _ c.run_packets.result (reque
 
 pub returns-in-Packets-clause-no_errors : goal.returns-in-Packets-clause-no_errors
 returns-in-Packets-clause-no_errors g c = of_no_other _ c.run_packets.result (request_of c.args.command) c.in-Packets.unwrap (ap request_of c.in-Packets.is)
+
+pub returns-in-Query-clause-device_failed : goal.returns-in-Query-clause-device_failed
+returns-in-Query-clause-device_failed g c = rw c.in-Query.is (query_cause c.in-Query.query c.run_query.result _ _ _ _ c.run_query.ensures.device_failed)

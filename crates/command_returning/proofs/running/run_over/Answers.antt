@@ -7,7 +7,8 @@ use Rattle.command_line.specs.declared.ending.Failure.TheVariants.{OutOfMemory}
 use Rattle.command_line.specs.declared.ending.Status.{Status}
 use Rattle.command_line.specs.declared.ending.Status.TheVariants.{Done, Failed, Misused, Refused}
 use Rattle.command_streams.proofs.FailureLemmas.{cause_borrow, write_cause}
-use Rattle.command_returning.proofs.FailureLemmas.{command_caused, command_failed, ended_ok, fault_caused, fault_failed, never_misused, same_request, waits_not}
+use Rattle.command_replay.proofs.CauseLemmas.{flush_borrow}
+use Rattle.command_returning.proofs.FailureLemmas.{command_caused, command_failed, command_then_flush, ended_ok, fault_caused, fault_failed, never_misused, same_request, waits_not}
 use Rattle.command_returning.proofs.running.run_over.Goals as goal
 
 pub returns-in-Ok-Returning-clause-answers : goal.returns-in-Ok-Returning-clause-answers
@@ -155,7 +156,7 @@ pub returns-in-Ok-Returning-clause-device_failed : goal.returns-in-Ok-Returning-
 returns-in-Ok-Returning-clause-device_failed g c = λ three.
     let is : c.reported.result ≡ Failed = search rules in
     let run = c.run_command-ended.ensures in let told = c.reported.ensures in
-    command_caused g.E.Write.contents _ _ (map string_bytes c.args.words.now) (request_of c.in-Ok-Returning.command) c.run_command-ended.result c.reported.result _ _ _ _ _ _ _ _ _ (c.in-Ok-Returning.ensures.named ∙ ap (λ (s : Subcommand). Some (command_of s)) c.in-Ok-Returning.field-0-is) run.failed run.failed_written run.untold told.told told.status run.written is run.device_failed
+    command_caused g.E.Write.contents _ _ (map string_bytes c.args.words.now) (request_of c.in-Ok-Returning.command) c.run_command-ended.result c.reported.result _ _ _ _ _ _ _ _ _ (c.in-Ok-Returning.ensures.named ∙ ap (λ (s : Subcommand). Some (command_of s)) c.in-Ok-Returning.field-0-is) run.failed run.failed_written run.untold told.told told.status run.written is c.in-Ok-Returning.ensures.faults run.device_failed
 
 pub returns-in-Ok-Returning-clause-no_device_failed : goal.returns-in-Ok-Returning-clause-no_device_failed
 returns-in-Ok-Returning-clause-no_device_failed g c = λ either. elim either [
@@ -163,14 +164,14 @@ returns-in-Ok-Returning-clause-no_device_failed g c = λ either. elim either [
   | inr done_or ↦ elim done_or [
     | inl zero ↦
         let is : c.reported.result ≡ Done = search rules in
-        rw (ended_ok c.run_command-ended.result c.reported.result Done c.reported.ensures.status c.reported.ensures.failed is (λ e. cc)) at c.run_command-ended.ensures.device_failed
+        rw (ended_ok c.run_command-ended.result c.reported.result Done c.reported.ensures.status c.reported.ensures.failed is (λ e. cc)) at (command_then_flush (request_of c.in-Ok-Returning.command) c.run_command-ended.result _ _ _ _ c.run_command-ended.ensures.device_failed)
     | inr refused_or ↦ elim refused_or [
       | inl one ↦
           let is : c.reported.result ≡ Refused = search rules in
-          rw (ended_ok c.run_command-ended.result c.reported.result Refused c.reported.ensures.status c.reported.ensures.failed is (λ e. cc)) at c.run_command-ended.ensures.device_failed
+          rw (ended_ok c.run_command-ended.result c.reported.result Refused c.reported.ensures.status c.reported.ensures.failed is (λ e. cc)) at (command_then_flush (request_of c.in-Ok-Returning.command) c.run_command-ended.result _ _ _ _ c.run_command-ended.ensures.device_failed)
       | inr two ↦
           let is : c.reported.result ≡ Misused = search rules in
-          rw (ended_ok c.run_command-ended.result c.reported.result Misused c.reported.ensures.status c.reported.ensures.failed is (λ e. cc)) at c.run_command-ended.ensures.device_failed
+          rw (ended_ok c.run_command-ended.result c.reported.result Misused c.reported.ensures.status c.reported.ensures.failed is (λ e. cc)) at (command_then_flush (request_of c.in-Ok-Returning.command) c.run_command-ended.result _ _ _ _ c.run_command-ended.ensures.device_failed)
     ]
   ]
 ]
@@ -200,7 +201,9 @@ returns-in-Err-clause-no_device_failed g c = λ either. elim either [
 ]
 
 pub returns-in-Ok-Returning-clause-borrow_kept : goal.returns-in-Ok-Returning-clause-borrow_kept
-returns-in-Ok-Returning-clause-borrow_kept g c = cause_borrow c.run_command-ended.result _ _ _ _ c.run_command-ended.ensures.device_failed
+returns-in-Ok-Returning-clause-borrow_kept g c =
+    flush_borrow c.run_command-ended.result _ _ _ _
+    (command_then_flush (request_of c.in-Ok-Returning.command) c.run_command-ended.result _ _ _ _ c.run_command-ended.ensures.device_failed)
 
 pub returns-in-Err-clause-borrow_kept : goal.returns-in-Err-clause-borrow_kept
 returns-in-Err-clause-borrow_kept g c =
