@@ -27,17 +27,18 @@ pub enum AskFailure {
 impl AskFailure {
     /// Returns why a call failed that writes no results and starts no thread.
     pub fn of(failure: Failure) -> AskFailure
-        ensures { failure ≢ Failure.WriteFailed → failure ≢ Failure.SpawnFailed → failure_of result ≡ failure }
+        requires unwritten { failure ≢ Failure.WriteFailed }
+        requires no_thread { failure ≢ Failure.SpawnFailed }
+        ensures { failure_of result ≡ failure }
     {
         match failure {
             Failure::ReadFailed => AskFailure::ReadFailed,
+            Failure::OutOfMemory => AskFailure::OutOfMemory,
             Failure::BindFailed => AskFailure::BindFailed,
             Failure::PollFailed => AskFailure::PollFailed,
             Failure::NoAnswer => AskFailure::NoAnswer,
             Failure::RulesChanged => AskFailure::RulesChanged,
-            Failure::OutOfMemory | Failure::WriteFailed | Failure::SpawnFailed => {
-                AskFailure::OutOfMemory
-            }
+            Failure::WriteFailed | Failure::SpawnFailed => unreachable!(),
         }
     }
 }
