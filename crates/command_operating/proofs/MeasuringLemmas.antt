@@ -1,5 +1,5 @@
 -- What the counters that were read make of `metrics` and `top`.
-use Rattle.std.proofs.Common.{◌≡◌, ◌∙◌, ◌<◌, ◌+◌, ◌++◌, Bool, List, None, Option, Some, [], ap, append-nil, append_assoc, inr, refl, subst, sym, ℕ}
+use Rattle.std.proofs.Common.{◌≡◌, ◌≢◌, ◌∙◌, ◌<◌, ◌+◌, ◌⊎◌, ◌++◌, Bool, List, None, Option, Some, [], ap, append-nil, append_assoc, inl, inr, refl, subst, sym, ℕ}
 use Rattle.std.specs.Prelude.{Err, IfErr, IsErrAnd, Ok, OnOk, Result}
 use Rattle.std.specs.Borrow.{Bor}
 use Rattle.std.specs.Io.KnownBytes.{Appends}
@@ -9,6 +9,7 @@ use Rattle.ipv4_fields.specs.declared.endpoint.Endpoint.{Endpoint}
 use Rattle.command_line.specs.ControlAddress.{SpellsControlAddress}
 use Rattle.command_line.specs.Ending.{AppendsBeginning, line_of}
 use Rattle.command_line.specs.declared.control_address.ControlAddress.{ControlAddress}
+use Rattle.command_line.specs.declared.ending.Failure.{Failure}
 use Rattle.command_line.specs.declared.ending.Failure.TheVariants.{WriteFailed}
 use Rattle.control_client.specs.Exchange.{AreExchanged, Exchange}
 use Rattle.control_client.specs.Wire.{peer_of}
@@ -20,8 +21,8 @@ use Rattle.control_counters.specs.Watching.{Watches}
 use Rattle.counter_text.specs.Screen.{screen_text}
 use Rattle.counter_text.specs.declared.counters.Counters.{Counters}
 use Rattle.counter_text.specs.declared.counters.FrontDrops.{FrontDrops}
-use Rattle.command_operating.specs.Measured.{AreFrontDrops, AreScreens, EndsInTopFailure, WatchesOf, WritesMetrics, WritesScreens, clear_text, first_reading, one_more}
-use Rattle.command_operating.specs.Reported.{told_alone}
+use Rattle.command_operating.specs.Measured.{AreFrontDrops, AreScreens, TopFails, WatchesOf, WritesMetrics, WritesScreens, clear_text, first_reading, one_more}
+use Rattle.command_operating.specs.Reported.{IsTold, told_alone}
 use Rattle.control_counters.proofs.WatchLemmas.{watches_then, watches_weaker}
 use Rattle.command_operating.specs.body.Front.{IsFrontOf, IsGivenFront, PrintsMetrics}
 use Rattle.command_operating.specs.body.Screens.{Shows, ShowsFewer, ShowsMore}
@@ -132,10 +133,16 @@ writes_metrics control address front endpoint before after spells given prints =
   written = prints.written;
 }
 
-pub top_unwritten : (control : Text) (clears : Bool) (count : ℕ) (before after told_before told_after : Option (List ℕ)) →
-    AppendsBeginning told_before told_after (line_of WriteFailed) → EndsInTopFailure control clears count before after told_before told_after
-top_unwritten control clears count before after told_before told_after told = record {
-  failure = WriteFailed;
-  written = λ other. absurd (other refl);
-  told = told_alone told;
-}
+module _ (control : Text) (clears : Bool) (count : ℕ) (before after told_before told_after : Option (List ℕ)) where
+  pub top_unwritten : AppendsBeginning told_before told_after (line_of WriteFailed) → TopFails control clears count before after told_before told_after WriteFailed
+  top_unwritten told = record { written = λ other. absurd (other refl); told = told_alone told }
+
+  -- it failed at an address that was read
+  pub top_failed : (switch : Peer) (failure : Failure) → (failure ≢ WriteFailed → ShowsFewer clears count switch before after) →
+      IsTold (Some control) failure told_before told_after → TopFails control clears count before after told_before told_after failure
+  top_failed switch failure fewer told = record { written = λ other. of_switch (fewer other); told = told }
+    where
+      of_switch : ShowsFewer clears count switch before after
+          → (after ≡ before) ⊎ ((switch : Peer) × (shown : ℕ) × (shown < count) × WritesScreens switch clears shown before after)
+      of_switch (inl same) = inl same
+      of_switch (inr (shown, fewer, written)) = inr (switch, shown, fewer, written)

@@ -19,7 +19,7 @@ use Rattle.control_line.specs.declared.reason.Reason.{Reason}
 use Rattle.control_line.specs.declared.rules_file.RulesFault.TheVariants as fault
 use Rattle.control_line.specs.Rules.{IsConfigOf, IsFaultOfFile, RefusesFileBy, bad_line, long, too_big}
 use Rattle.control_line.proofs.ChangeLemmas.{charged_alike}
-use Rattle.command_operating.specs.Opening.{EndsUnread, IsMadeFrom, RefusesRules, file_refusal_text}
+use Rattle.command_operating.specs.Opening.{EndsUnread, FailsUnread, IsMadeFrom, RefusesRules, file_refusal_text}
 use Rattle.command_operating.specs.body.Reading.{IsReadOf}
 
 -- all of a list was taken, or a list that is too long, too
@@ -102,10 +102,18 @@ read_of {R} remaining taken input same enough bytes read = record {
 -- ---- there is no configuration
 
 module _ (before told_before told_after : Option (List ℕ)) where
+  pub fails_reading : (failure : Failure) → (failure ≡ ReadFailed) ⊎ (failure ≡ OutOfMemory) → AppendsBeginning told_before told_after (line_of failure)
+      → FailsUnread before before told_before told_after failure
+  fails_reading failure (inl is) told = record { cause = inl is; unwritten = λ other. refl; told = told }
+  fails_reading failure (inr is) told = record { cause = inr (inl is); unwritten = λ other. refl; told = told }
+
   pub not_read : (failure : Failure) → (failure ≡ ReadFailed) ⊎ (failure ≡ OutOfMemory) → AppendsBeginning told_before told_after (line_of failure)
       → EndsUnread before before told_before told_after
-  not_read failure (inl is) told = record { failure = failure; cause = inl is; unwritten = λ other. refl; told = told }
-  not_read failure (inr is) told = record { failure = failure; cause = inr (inl is); unwritten = λ other. refl; told = told }
+  not_read failure is told = (failure, fails_reading failure is told)
+
+  pub fails_refusing : (after : Option (List ℕ)) → AppendsBeginning told_before told_after (line_of WriteFailed)
+      → FailsUnread before after told_before told_after WriteFailed
+  fails_refusing after told = record { cause = inr (inr refl); unwritten = λ other. absurd (other refl); told = told }
 
   pub not_written : (after : Option (List ℕ)) → AppendsBeginning told_before told_after (line_of WriteFailed) → EndsUnread before after told_before told_after
-  not_written after told = record { failure = WriteFailed; cause = inr (inr refl); unwritten = λ other. absurd (other refl); told = told }
+  not_written after told = (WriteFailed, fails_refusing after told)

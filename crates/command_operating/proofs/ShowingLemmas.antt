@@ -12,20 +12,22 @@ use Rattle.control_rules.specs.declared.loading.Loaded.{Loaded}
 use Rattle.command_line.specs.Ending.{AppendsBeginning, line_of}
 use Rattle.command_line.specs.declared.ending.Failure.{Failure}
 use Rattle.command_line.specs.declared.ending.Failure.TheVariants.{WriteFailed}
+use Rattle.command_streams.specs.Endings.{EndsByCause}
+use Rattle.command_streams.specs.Failures.{FailuresValue}
 use Rattle.control_client.specs.Exchange.{AreExchanged}
 use Rattle.control_rules.specs.History.{ClientValue, Learns}
 use Rattle.config_diff.specs.Words.{words_config}
 use Rattle.control_rules.specs.Load.{IsDifference, Loads}
 use Rattle.control_rules.specs.Rules.{rules_file}
 use Rattle.control_client.specs.declared.device.Peer.{Peer}
-use Rattle.command_operating.specs.Reported.{IsTold, told_alone}
+use Rattle.command_operating.specs.Reported.{IsTold, told_after_trouble, told_alone}
 use Rattle.command_line.specs.ControlAddress.{IsNoControlAddress, SpellsControlAddress}
 use Rattle.command_line.specs.declared.control_address.ControlAddress.{ControlAddress}
 use Rattle.command_line.specs.declared.control_address.ControlAddress.TheVariants as address_of
 use Rattle.control_client.specs.Wire.{peer_of}
 use Rattle.command_operating.specs.body.Asked.{IsAsked}
-use Rattle.command_operating.specs.Opening.{EndsUnread}
-use Rattle.command_operating.specs.Showing.{AreChangesTo, EndsInRulesFailure, IsNoSwitch, IsRulesOf, IsSwitch, LoadsInto, RefusesLoad, WritesLoad, change_refused, checked, loaded_line, loaded_status, measures_line, no_switch, replaced, shown}
+use Rattle.command_operating.specs.Opening.{EndsUnread, FailsUnread}
+use Rattle.command_operating.specs.Showing.{AreChangesTo, EndsInRulesFailure, IsNoSwitch, IsRulesOf, IsSwitch, LoadsInto, RefusesLoad, RulesFail, WritesLoad, change_refused, checked, loaded_line, loaded_status, measures_line, no_switch, replaced, shown}
 
 -- the text of a version's rules
 pub rules_learned : (before after : ClientValue) (switch : Peer) (version : ℕ) (text : List ℕ) → before.switch ≡ switch
@@ -59,15 +61,29 @@ loaded_so before after switch text config (Err why) is loads = tt
 
 module _ (control : Option Text) (before after told_before told_after : Option (List ℕ)) where
   -- no configuration
-  pub fails_unread : EndsUnread before after told_before told_after → EndsInRulesFailure control before after told_before told_after
-  fails_unread unread = record { failure = unread.failure; unwritten = unread.unwritten; told = told_alone unread.told }
+  pub fail_unread : (failure : Failure) → FailsUnread before after told_before told_after failure → RulesFail control before after told_before told_after failure
+  fail_unread failure unread = record { unwritten = unread.unwritten; told = told_alone unread.told }
 
-  pub fails_so : (failure : Failure) → (failure ≢ WriteFailed → after ≡ before) → IsTold control failure told_before told_after
-      → EndsInRulesFailure control before after told_before told_after
-  fails_so failure unwritten told = record { failure = failure; unwritten = unwritten; told = told }
+  pub fails_unread : EndsUnread before after told_before told_after → EndsInRulesFailure control before after told_before told_after
+  fails_unread (failure, unread) = (failure, fail_unread failure unread)
+
+  -- a write failed
+  pub fail_writing : AppendsBeginning told_before told_after (line_of WriteFailed) → RulesFail control before after told_before told_after WriteFailed
+  fail_writing told = record { unwritten = λ other. absurd (other refl); told = told_alone told }
 
   pub fails_writing : AppendsBeginning told_before told_after (line_of WriteFailed) → EndsInRulesFailure control before after told_before told_after
-  fails_writing told = record { failure = WriteFailed; unwritten = λ other. absurd (other refl); told = told_alone told }
+  fails_writing told = (WriteFailed, fail_writing told)
+
+  -- no switch is asked
+  pub fail_alone : (failure : Failure) → RulesFail None before after told_before told_after failure → RulesFail control before after told_before told_after failure
+  fail_alone failure fails = record { unwritten = fails.unwritten; told = alone fails.told }
+    where
+      alone : IsTold None failure told_before told_after → IsTold control failure told_before told_after
+      alone (told_alone told) = told_alone told
+      alone (told_after_trouble path is silent why line is_line between first then) = absurd (cc)
+
+  pub fails_alone : EndsInRulesFailure None before after told_before told_after → EndsInRulesFailure control before after told_before told_after
+  fails_alone (failure, fails) = (failure, fail_alone failure fails)
 
 -- the switch that is asked
 pub is_switch : (control : Option Text) (text : Text) (address : ControlAddress) → IsAsked control text address → IsSwitch control (peer_of address)
@@ -77,6 +93,12 @@ pub fails_asked : (control : Option Text) (text : Text) (address : ControlAddres
     → EndsInRulesFailure (Some text) before after told_before told_after → EndsInRulesFailure control before after told_before told_after
 fails_asked control text address before after told_before told_after asked fails =
     subst (λ (c : Option Text). EndsInRulesFailure c before after told_before told_after) (sym asked.given) fails
+
+pub ends_asked : (control : Option Text) (text : Text) (address : ControlAddress) (before after told_before told_after : Option (List ℕ)) (status : Status) (failures failures' : FailuresValue)
+    → IsAsked control text address → EndsByCause (RulesFail (Some text) before after told_before told_after) status failures failures'
+    → EndsByCause (RulesFail control before after told_before told_after) status failures failures'
+ends_asked control text address before after told_before told_after status failures failures' asked ends =
+    subst (λ (c : Option Text). EndsByCause (RulesFail c before after told_before told_after) status failures failures') (sym asked.given) ends
 
 pub no_address : (control : Option Text) → ((text : Text) → control ≡ Some text → IsNoControlAddress text) → IsNoSwitch control
 no_address None none switch is = is
@@ -111,16 +133,24 @@ pub ended_replaced : (switch : Peer) (text : List ℕ) (config : List Group) (be
 ended_replaced switch text config before after (Ok given) status is failed printed never = (printed.0, is ∙ printed.1, printed.2, printed.3)
 ended_replaced switch text config before after (Err why) status is failed printed never = absurd (never failed)
 
+-- but for a failed write it left the output
+pub fail_of : {X : Type 0} (control : Option Text) (contents : X → Option (List ℕ)) (old new : X) (told_before told_after : Option (List ℕ)) (failure : Failure)
+    → (failure ≢ WriteFailed → new ≡ old) → IsTold control failure told_before told_after → RulesFail control (contents old) (contents new) told_before told_after failure
+fail_of control contents old new told_before told_after failure unwritten told = record { unwritten = λ other. ap contents (unwritten other); told = told }
+
+pub fail_told : {X : Type 0} (control : Option Text) (contents : X → Option (List ℕ)) (old new : X) (told_before told_after : Option (List ℕ)) (ended : Result Status Failure)
+    → IfErr ended (λ failure. failure ≢ WriteFailed → new ≡ old) → IfErr ended (λ failure. IsTold control failure told_before told_after)
+    → IfErr ended (RulesFail control (contents old) (contents new) told_before told_after)
+fail_told control contents old new told_before told_after (Ok given) unwritten told = tt
+fail_told control contents old new told_before told_after (Err why) unwritten told = fail_of control contents old new told_before told_after why unwritten told
+
 pub ended_failed : {X : Type 0} (control : Option Text) (contents : X → Option (List ℕ)) (old new : X) (told_before told_after : Option (List ℕ)) (ended : Result Status Failure) (status : Status)
     → IfOk ended (λ given. status ≡ given) → IfOk ended IsDoneOrRefused → IfErr ended (λ failure. failure ≢ WriteFailed → new ≡ old)
     → IfErr ended (λ failure. IsTold control failure told_before told_after) → status ≡ Failed
     → EndsInRulesFailure control (contents old) (contents new) told_before told_after
 ended_failed control contents old new told_before told_after (Ok given) status is good unwritten told failed = absurd (never_failed given good (sym is ∙ failed))
-ended_failed control contents old new told_before told_after (Err why) status is good unwritten told failed = record {
-  failure = why;
-  unwritten = λ other. ap contents (unwritten other);
-  told = told;
-}
+ended_failed control contents old new told_before told_after (Err why) status is good unwritten told failed =
+    (why, fail_of control contents old new told_before told_after why unwritten told)
 
 -- a failure shows nothing before its own line
 pub told_from : {X : Type 0} (control : Option Text) (contents : X → Option (List ℕ)) (old new : X) (after : Option (List ℕ)) (ended : Result Status Failure)

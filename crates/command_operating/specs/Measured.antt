@@ -78,9 +78,12 @@ pub record WritesTop (control : Text) (clears : Bool) (count : ℕ) (before afte
   pub is_address : SpellsControlAddress control address
   pub written : WritesScreens (peer_of address) clears count before after
 
--- it failed; but for writes whole screens were written, and fewer than were wanted, or nothing
-pub record EndsInTopFailure (control : Text) (clears : Bool) (count : ℕ) (before after told_before told_after : Option (List ℕ)) : Type 0 where
-  pub failure : Failure
+-- it failed so; but for writes whole screens were written, and fewer than were wanted, or nothing
+pub record TopFails (control : Text) (clears : Bool) (count : ℕ) (before after told_before told_after : Option (List ℕ)) (failure : Failure) : Type 0 where
   pub written : failure ≢ WriteFailed
       → (after ≡ before) ⊎ ((switch : Peer) × (shown : ℕ) × (shown < count) × WritesScreens switch clears shown before after)
   pub told : IsTold (Some control) failure told_before told_after
+
+abbrev pub EndsInTopFailure : Text → Bool → ℕ → (before after told_before told_after : Option (List ℕ)) → Type 0
+EndsInTopFailure control clears count before after told_before told_after =
+    (failure : Failure) × TopFails control clears count before after told_before told_after failure

@@ -36,11 +36,13 @@ pub record RefusesRules (input before after : Option (List ℕ)) : Type 0 where
   pub written : Appends before after (file_refusal_text line why)
 
 -- there is no configuration, since a read, a write or memory failed; but for writes nothing was written
-pub record EndsUnread (before after told_before told_after : Option (List ℕ)) : Type 0 where
-  pub failure : Failure
+pub record FailsUnread (before after told_before told_after : Option (List ℕ)) (failure : Failure) : Type 0 where
   pub cause : (failure ≡ ReadFailed) ⊎ ((failure ≡ OutOfMemory) ⊎ (failure ≡ WriteFailed))
   pub unwritten : failure ≢ WriteFailed → after ≡ before
   pub told : AppendsBeginning told_before told_after (line_of failure)
+
+abbrev pub EndsUnread : (before after told_before told_after : Option (List ℕ)) → Type 0
+EndsUnread before after told_before told_after = (failure : Failure) × FailsUnread before after told_before told_after failure
 
 -- the configuration that a switch begins with: that of a rules file, or the one without groups
 abbrev pub IsOpening : Option Text → List Group → Type 0

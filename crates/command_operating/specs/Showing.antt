@@ -47,11 +47,13 @@ pub record WritesRules (control : Text) (before after : Option (List ℕ)) : Typ
   pub is_rules : IsRulesOf (peer_of address) text
   pub written : Appends before after text
 
--- a command failed; but for writes nothing was written
-pub record EndsInRulesFailure (control : Option Text) (before after told_before told_after : Option (List ℕ)) : Type 0 where
-  pub failure : Failure
+-- a command failed so; but for writes nothing was written
+pub record RulesFail (control : Option Text) (before after told_before told_after : Option (List ℕ)) (failure : Failure) : Type 0 where
   pub unwritten : failure ≢ WriteFailed → after ≡ before
   pub told : IsTold control failure told_before told_after
+
+abbrev pub EndsInRulesFailure : Option Text → (before after told_before told_after : Option (List ℕ)) → Type 0
+EndsInRulesFailure control before after told_before told_after = (failure : Failure) × RulesFail control before after told_before told_after failure
 
 -- ---- `load`
 

@@ -9,8 +9,7 @@ ghost use Rattle.control_rules.specs.declared.draining.Drained.{Drained as Drain
 ghost use Rattle.command_streams.specs.Endings.{EndsByCause};
 ghost use Rattle.command_streams.specs.Failures.{OutputFails};
 ghost use Rattle.command_operating.specs.Draining.{DrainsFrom, NamesMember, NamesNoMember, RefusesDrain, WritesDrain, drained_line, drained_status};
-ghost use Rattle.command_operating.specs.Reported.{IsTold};
-ghost use Rattle.command_operating.specs.Showing.{EndsInRulesFailure};
+ghost use Rattle.command_operating.specs.Showing.{EndsInRulesFailure, RulesFail};
 
 use crate::loading::version_line;
 use crate::printing::print_line;
@@ -132,7 +131,8 @@ pub fn run_drain<R: Net + Clock, W: CountedWrite, E: Write>(
     ensures never_misused { result ≡ Status.Misused → ⊥ }
     ensures failed { result ≡ Status.Failed
         → EndsInRulesFailure (Some draining.entry.control.now) (W.contents out.old) (W.contents out.new) (E.contents errs.old) (E.contents errs.new) }
-    ensures device_failed { EndsByCause (λ cause. IsTold (Some draining.entry.control.now) cause (E.contents errs.old) (E.contents errs.new)) result
+    ensures device_failed { EndsByCause
+        (RulesFail (Some draining.entry.control.now) (W.contents out.old) (W.contents out.new) (E.contents errs.old) (E.contents errs.new)) result
         (W.failures out.old) (W.failures out.new) }
 {
     let Draining {

@@ -7,13 +7,12 @@ ghost use Rattle.control_client.specs.Wire.{peer_of};
 ghost use Rattle.control_line.specs.Rules.{IsConfigOf};
 ghost use Rattle.command_explain.specs.Meaning.{file_line};
 ghost use Rattle.command_line.specs.ControlAddress.{SpellsControlAddress};
-ghost use Rattle.command_line.specs.Ending.{AppendsBeginning, line_of};
+ghost use Rattle.command_line.specs.Ending.{AppendsBeginning};
 ghost use Rattle.command_line.specs.declared.ending.Failure.TheVariants as failure;
 ghost use Rattle.command_streams.specs.Endings.{EndsByCause};
 ghost use Rattle.command_streams.specs.Failures.{OutputFails};
 ghost use Rattle.command_operating.specs.Opening.{RefusesRules};
-ghost use Rattle.command_operating.specs.Reported.{IsTold};
-ghost use Rattle.command_operating.specs.Showing.{AreChangesTo, EndsInRulesFailure, IsNoSwitch, LoadsInto, RefusesLoad, ShowsFileRefusal, WritesLoad, loaded_line, loaded_status, measures_line, version_line};
+ghost use Rattle.command_operating.specs.Showing.{AreChangesTo, EndsInRulesFailure, IsNoSwitch, LoadsInto, RefusesLoad, RulesFail, ShowsFileRefusal, WritesLoad, loaded_line, loaded_status, measures_line, version_line};
 ghost use Rattle.command_operating.specs.body.Asked.{IsAsked};
 
 use crate::printing::print_line;
@@ -133,7 +132,8 @@ fn show_changes<R: Net + Clock, W: CountedWrite, E: Write>(
     ensures no_errors { result ≡ Status.Done → errs.new ≡ errs.old }
     ensures failed { result ≡ Status.Failed
         → EndsInRulesFailure (Some asked.entry.0.now) (W.contents out.old) (W.contents out.new) (E.contents errs.old) (E.contents errs.new) }
-    ensures device_failed { EndsByCause (λ cause. IsTold (Some asked.entry.0.now) cause (E.contents errs.old) (E.contents errs.new)) result
+    ensures device_failed { EndsByCause
+        (RulesFail (Some asked.entry.0.now) (W.contents out.old) (W.contents out.new) (E.contents errs.old) (E.contents errs.new)) result
         (W.failures out.old) (W.failures out.new) }
 {
     let (control, reach) = asked;
@@ -254,7 +254,8 @@ fn replace<R: Net + Clock, W: CountedWrite, E: Write>(
     ensures never_misused { result ≡ Status.Misused → ⊥ }
     ensures failed { result ≡ Status.Failed
         → EndsInRulesFailure (Some asked.entry.0.now) (W.contents out.old) (W.contents out.new) (E.contents errs.old) (E.contents errs.new) }
-    ensures device_failed { EndsByCause (λ cause. IsTold (Some asked.entry.0.now) cause (E.contents errs.old) (E.contents errs.new)) result
+    ensures device_failed { EndsByCause
+        (RulesFail (Some asked.entry.0.now) (W.contents out.old) (W.contents out.new) (E.contents errs.old) (E.contents errs.new)) result
         (W.failures out.old) (W.failures out.new) }
 {
     let (control, reach) = asked;
@@ -277,7 +278,8 @@ fn check_file<R: Files, W: CountedWrite, E: Write>(
     ensures never_misused { result ≡ Status.Misused → ⊥ }
     ensures failed { result ≡ Status.Failed
         → EndsInRulesFailure None (W.contents out.old) (W.contents out.new) (E.contents errs.old) (E.contents errs.new) }
-    ensures device_failed { EndsByCause (λ cause. AppendsBeginning (E.contents errs.old) (E.contents errs.new) (line_of cause)) result
+    ensures device_failed { EndsByCause
+        (RulesFail None (W.contents out.old) (W.contents out.new) (E.contents errs.old) (E.contents errs.new)) result
         (W.failures out.old) (W.failures out.new) }
 {
     let file = match open_file(rt, alloc, name, out, errs) {
@@ -306,8 +308,8 @@ pub fn run_load<R: Net + Clock + Files, W: CountedWrite, E: Write>(
     ensures never_misused { result ≡ Status.Misused → ⊥ }
     ensures failed { result ≡ Status.Failed
         → EndsInRulesFailure (option_map (λ address. address.now) loading.entry.control) (W.contents out.old) (W.contents out.new) (E.contents errs.old) (E.contents errs.new) }
-    ensures device_failed { EndsByCause (λ cause. IsTold (option_map (λ address. address.now) loading.entry.control) cause
-        (E.contents errs.old) (E.contents errs.new)) result (W.failures out.old) (W.failures out.new) }
+    ensures device_failed { EndsByCause (RulesFail (option_map (λ address. address.now) loading.entry.control)
+        (W.contents out.old) (W.contents out.new) (E.contents errs.old) (E.contents errs.new)) result (W.failures out.old) (W.failures out.new) }
 {
     if loading.check {
         return check_file(rt, alloc, loading.file, out, errs);

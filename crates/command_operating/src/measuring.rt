@@ -9,8 +9,7 @@ ghost use Rattle.counter_text.specs.Sockets.{AreDropsAt};
 ghost use Rattle.command_streams.specs.Endings.{EndsByCause};
 ghost use Rattle.command_streams.specs.Failures.{OutputFails};
 ghost use Rattle.command_operating.specs.Measured.{AreFrontDrops, IsNoFront, WatchesOf, WritesMetrics};
-ghost use Rattle.command_operating.specs.Reported.{IsTold};
-ghost use Rattle.command_operating.specs.Showing.{EndsInRulesFailure};
+ghost use Rattle.command_operating.specs.Showing.{EndsInRulesFailure, RulesFail};
 ghost use Rattle.command_operating.specs.body.Front.{IsFrontOf, IsGivenFront, PrintsMetrics};
 
 use crate::reaching::client_of;
@@ -140,7 +139,8 @@ pub fn run_metrics<R: Net + Clock + Files, W: CountedWrite, E: Write>(
     ensures never_misused { result ≡ Status.Misused → ⊥ }
     ensures failed { result ≡ Status.Failed
         → EndsInRulesFailure (Some addresses.entry.0.now) (W.contents out.old) (W.contents out.new) (E.contents errs.old) (E.contents errs.new) }
-    ensures device_failed { EndsByCause (λ cause. IsTold (Some addresses.entry.0.now) cause (E.contents errs.old) (E.contents errs.new)) result
+    ensures device_failed { EndsByCause
+        (RulesFail (Some addresses.entry.0.now) (W.contents out.old) (W.contents out.new) (E.contents errs.old) (E.contents errs.new)) result
         (W.failures out.old) (W.failures out.new) }
 {
     let (control, front) = addresses;

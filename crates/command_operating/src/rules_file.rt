@@ -10,7 +10,7 @@ ghost use Rattle.control_line.specs.Reason.{refusal_text};
 ghost use Rattle.control_line.specs.Rules.{IsConfigOf};
 ghost use Rattle.command_streams.specs.Endings.{EndsByCause};
 ghost use Rattle.command_streams.specs.Failures.{OutputFails};
-ghost use Rattle.command_operating.specs.Opening.{EndsUnread, IsMadeFrom, IsOpening, RefusesRules, file_refusal_text, of_line};
+ghost use Rattle.command_operating.specs.Opening.{EndsUnread, FailsUnread, IsMadeFrom, IsOpening, RefusesRules, file_refusal_text, of_line};
 ghost use Rattle.command_operating.specs.body.Reading.{IsReadOf};
 
 use command_explain::{FaultPlace, file_fault_text, line_fault_text};
@@ -150,7 +150,7 @@ fn file_of<I: Read + Drop, W: CountedWrite, E: Write>(
     ensures failed { IfErr result (λ status. status ≡ Status.Failed
         → EndsUnread (W.contents out.old) (W.contents out.new) (E.contents errs.old) (E.contents errs.new)) }
     ensures device_failed { IfErr result (λ status.
-        EndsByCause (λ cause. AppendsBeginning (E.contents errs.old) (E.contents errs.new) (line_of cause)) status
+        EndsByCause (FailsUnread (W.contents out.old) (W.contents out.new) (E.contents errs.old) (E.contents errs.new)) status
         (W.failures out.old) (W.failures out.new)) }
 {
     let text = match read_text(alloc, input) {
@@ -196,7 +196,7 @@ pub(crate) fn open_file<R: Files, W: CountedWrite, E: Write>(
     ensures failed { IfErr result (λ status. status ≡ Status.Failed
         → EndsUnread (W.contents out.old) (W.contents out.new) (E.contents errs.old) (E.contents errs.new)) }
     ensures device_failed { IfErr result (λ status.
-        EndsByCause (λ cause. AppendsBeginning (E.contents errs.old) (E.contents errs.new) (line_of cause)) status
+        EndsByCause (FailsUnread (W.contents out.old) (W.contents out.new) (E.contents errs.old) (E.contents errs.new)) status
         (W.failures out.old) (W.failures out.new)) }
 {
     match File::open(rt, name) {
@@ -225,7 +225,7 @@ pub fn opening<R: Files, W: CountedWrite, E: Write>(
     ensures failed { IfErr result (λ status. status ≡ Status.Failed
         → IsSome file.entry × EndsUnread (W.contents out.old) (W.contents out.new) (E.contents errs.old) (E.contents errs.new)) }
     ensures device_failed { IfErr result (λ status.
-        EndsByCause (λ cause. AppendsBeginning (E.contents errs.old) (E.contents errs.new) (line_of cause)) status
+        EndsByCause (FailsUnread (W.contents out.old) (W.contents out.new) (E.contents errs.old) (E.contents errs.new)) status
         (W.failures out.old) (W.failures out.new)) }
 {
     let Some(name) = file else {

@@ -4,8 +4,7 @@ ghost use Rattle.std.specs.Prelude.{◌≡◌, ◌⊎◌, IfOk, Some, codes};
 ghost use Rattle.std.specs.Io.KnownBytes.{Appends};
 ghost use Rattle.command_line.specs.ControlAddress.{IsNoControlAddress};
 ghost use Rattle.command_streams.specs.Endings.{EndsByCause};
-ghost use Rattle.command_operating.specs.Reported.{IsTold};
-ghost use Rattle.command_operating.specs.Showing.{EndsInRulesFailure, IsRulesOf, WritesRules};
+ghost use Rattle.command_operating.specs.Showing.{EndsInRulesFailure, IsRulesOf, RulesFail, WritesRules};
 ghost use Rattle.control_client.specs.Wire.{peer_of};
 
 use crate::reaching::client_of;
@@ -55,7 +54,8 @@ pub fn run_rules<R: Net + Clock, W: CountedWrite, E: Write>(
     ensures never_misused { result ≡ Status.Misused → ⊥ }
     ensures failed { result ≡ Status.Failed
         → EndsInRulesFailure (Some control.now) (W.contents out.old) (W.contents out.new) (E.contents errs.old) (E.contents errs.new) }
-    ensures device_failed { EndsByCause (λ cause. IsTold (Some control.now) cause (E.contents errs.old) (E.contents errs.new)) result
+    ensures device_failed { EndsByCause
+        (RulesFail (Some control.now) (W.contents out.old) (W.contents out.new) (E.contents errs.old) (E.contents errs.new)) result
         (W.failures out.old) (W.failures out.new) }
 {
     let Some(address) = ControlAddress::from_text(control) else {

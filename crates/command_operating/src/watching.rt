@@ -9,8 +9,7 @@ ghost use Rattle.control_counters.specs.Watching.{Watches};
 ghost use Rattle.counter_text.specs.Screen.{screen_text};
 ghost use Rattle.command_streams.specs.Endings.{EndsByCause};
 ghost use Rattle.command_streams.specs.Failures.{OutputFails};
-ghost use Rattle.command_operating.specs.Measured.{EndsInTopFailure, WritesScreens, WritesTop, clear_text};
-ghost use Rattle.command_operating.specs.Reported.{IsTold};
+ghost use Rattle.command_operating.specs.Measured.{EndsInTopFailure, TopFails, WritesScreens, WritesTop, clear_text};
 ghost use Rattle.command_operating.specs.body.Screens.{Shows, ShowsFewer, ShowsMore};
 
 use crate::reaching::client_of;
@@ -182,8 +181,8 @@ pub fn run_top<R: Net + Clock, W: CountedWrite, E: Write>(
     ensures never_misused { result ≡ Status.Misused → ⊥ }
     ensures failed { result ≡ Status.Failed → EndsInTopFailure watching.entry.control.now watching.entry.clears watching.entry.count
         (W.contents out.old) (W.contents out.new) (E.contents errs.old) (E.contents errs.new) }
-    ensures device_failed { EndsByCause (λ cause. IsTold (Some watching.entry.control.now) cause (E.contents errs.old) (E.contents errs.new)) result
-        (W.failures out.old) (W.failures out.new) }
+    ensures device_failed { EndsByCause (TopFails watching.entry.control.now watching.entry.clears watching.entry.count
+        (W.contents out.old) (W.contents out.new) (E.contents errs.old) (E.contents errs.new)) result (W.failures out.old) (W.failures out.new) }
 {
     let control = watching.control;
     let Some(address) = ControlAddress::from_text(control) else {

@@ -62,14 +62,14 @@ module _ (front control : Text) (file : Option Text) (before after told_before t
   -- there is no configuration to begin with
   pub fails_unread : (file ≡ None → ⊥) → EndsUnread before after told_before told_after
       → EndsInServeFailure front control file before after told_before told_after
-  fails_unread given unread = record {
-    failure = unread.failure;
+  fails_unread given (failure, unread) = record {
+    failure = failure;
     no_read = λ none. absurd (given none);
-    no_silence = no_silence_unread unread.failure unread.cause;
-    no_rules_read = no_rules_unread unread.failure unread.cause;
+    no_silence = no_silence_unread failure unread.cause;
+    no_rules_read = no_rules_unread failure unread.cause;
     written = λ other. inl (unread.unwritten other);
-    not_bound = λ is. absurd (no_bind_unread unread.failure unread.cause is);
-    not_read = λ is. unread.unwritten (no_write_unread unread.failure is);
+    not_bound = λ is. absurd (no_bind_unread failure unread.cause is);
+    not_read = λ is. unread.unwritten (no_write_unread failure is);
     are_addresses = λ other more. (is_front, is_control);
     told = told_alone unread.told;
   }

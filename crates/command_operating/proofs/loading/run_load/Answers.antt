@@ -1,8 +1,7 @@
-use Rattle.command_streams.proofs.OutputLemmas.{ends_unwritten}
-use Rattle.command_operating.specs.Reported.{told_alone}
+use Rattle.command_streams.proofs.OutputLemmas.{ends_as, ends_unwritten}
 use Rattle.control_client.specs.Wire.{peer_of}
 use Rattle.command_operating.specs.Showing.{file_refused}
-use Rattle.command_operating.proofs.ShowingLemmas.{checks, fails_asked, fails_unread, fails_writing, is_switch, refuses_change, refuses_switch, replaces, shows}
+use Rattle.command_operating.proofs.ShowingLemmas.{checks, ends_asked, fail_alone, fail_unread, fail_writing, fails_alone, fails_asked, fails_unread, fails_writing, is_switch, refuses_change, refuses_switch, replaces, shows}
 use Rattle.command_operating.proofs.loading.run_load.Goals as goal
 
 pub returns-then-loading-clause-done : goal.returns-then-loading-clause-done
@@ -10,6 +9,12 @@ returns-then-loading-clause-done g c = λ is. checks _ _ _ _ _ c.if-loading.true
 
 pub returns-then-loading-clause-refused : goal.returns-then-loading-clause-refused
 returns-then-loading-clause-refused g c = λ is. file_refused _ _ (c.check_file.ensures.refused is)
+
+pub returns-then-loading-clause-failed : goal.returns-then-loading-clause-failed
+returns-then-loading-clause-failed g c = λ is. fails_alone _ _ _ _ _ (c.check_file.ensures.failed is)
+
+pub returns-then-loading-clause-device_failed : goal.returns-then-loading-clause-device_failed
+returns-then-loading-clause-device_failed g c = ends_as _ _ _ _ c.check_file.result (λ failure fails. fail_alone _ _ _ _ _ failure fails) c.check_file.ensures.device_failed
 
 pub returns-in_default-clause-refused : goal.returns-in_default-clause-refused
 returns-in_default-clause-refused g c = λ is. refuses_switch _ _ _ _ _ c.if-loading.false c.in_default.ensures (c.refuse_address.ensures.refused is)
@@ -53,4 +58,19 @@ returns-clause-failed g c =
     λ is. fails_asked _ c.in-Some.control.now c.in-Some.address _ _ _ _ c.in-Some.ensures (told is)
 
 pub returns-in_default-clause-device_failed : goal.returns-in_default-clause-device_failed
-returns-in_default-clause-device_failed g c = ends_unwritten _ _ _ c.refuse_address.result (λ is. told_alone (c.refuse_address.ensures.failed is)) c.refuse_address.ensures.device_failed
+returns-in_default-clause-device_failed g c = ends_unwritten _ _ _ c.refuse_address.result (λ is. fail_writing _ _ _ _ _ (c.refuse_address.ensures.failed is)) c.refuse_address.ensures.device_failed
+
+pub returns-in-Err-clause-device_failed : goal.returns-in-Err-clause-device_failed
+returns-in-Err-clause-device_failed g c = ends_as _ _ _ _ c.in-Err.status (λ failure unread. fail_unread _ _ _ _ _ failure unread) c.in-Err.ensures.device_failed
+
+pub returns-then-loading-2-clause-device_failed : goal.returns-then-loading-2-clause-device_failed
+returns-then-loading-2-clause-device_failed g c =
+    let ends = rw c.in-Ok.ensures.unwritten at c.show_changes.ensures.device_failed in
+    let told = rw c.in-Ok.ensures.no_errors at ends in
+    ends_asked _ c.in-Some.control.now c.in-Some.address _ _ _ _ _ _ _ c.in-Some.ensures told
+
+pub returns-clause-device_failed : goal.returns-clause-device_failed
+returns-clause-device_failed g c =
+    let ends = rw c.in-Ok.ensures.unwritten at c.replace.ensures.device_failed in
+    let told = rw c.in-Ok.ensures.no_errors at ends in
+    ends_asked _ c.in-Some.control.now c.in-Some.address _ _ _ _ _ _ _ c.in-Some.ensures told

@@ -1,7 +1,6 @@
 use Rattle.command_streams.proofs.OutputLemmas.{ends_unwritten}
-use Rattle.command_operating.specs.Reported.{told_alone}
 use Rattle.command_operating.proofs.MeasuringLemmas.{writes_metrics}
-use Rattle.command_operating.proofs.ShowingLemmas.{fails_writing}
+use Rattle.command_operating.proofs.ShowingLemmas.{fail_writing, fails_writing}
 use Rattle.command_operating.proofs.measuring.run_metrics.Goals as goal
 
 pub returns-in_default-clause-failed : goal.returns-in_default-clause-failed
@@ -15,7 +14,7 @@ returns-in-Ok-print_metrics-clause-done g c = λ is.
     writes_metrics c.args.addresses.0.now c.in-Some.address _ c.in-Ok.front _ _ c.in-Some.ensures c.in-Ok.ensures c.in-Ok-print_metrics.ensures.printed
 
 pub returns-in_default-clause-device_failed : goal.returns-in_default-clause-device_failed
-returns-in_default-clause-device_failed g c = ends_unwritten _ _ _ c.refuse_address.result (λ is. told_alone (c.refuse_address.ensures.failed is)) c.refuse_address.ensures.device_failed
+returns-in_default-clause-device_failed g c = ends_unwritten _ _ _ c.refuse_address.result (λ is. fail_writing _ _ _ _ _ (c.refuse_address.ensures.failed is)) c.refuse_address.ensures.device_failed
 
 pub returns-in_default-front_of-clause-device_failed : goal.returns-in_default-front_of-clause-device_failed
-returns-in_default-front_of-clause-device_failed g c = ends_unwritten _ _ _ c.refuse_address-in_default-front_of.result (λ is. told_alone (c.refuse_address-in_default-front_of.ensures.failed is)) c.refuse_address-in_default-front_of.ensures.device_failed
+returns-in_default-front_of-clause-device_failed g c = ends_unwritten _ _ _ c.refuse_address-in_default-front_of.result (λ is. fail_writing _ _ _ _ _ (c.refuse_address-in_default-front_of.ensures.failed is)) c.refuse_address-in_default-front_of.ensures.device_failed

@@ -1,7 +1,7 @@
 use Rattle.std.proofs.Common.{inr, refl}
 use Rattle.command_line.specs.declared.ending.Failure.TheVariants.{OutOfMemory}
 use Rattle.command_streams.proofs.OutputLemmas.{ends_in_failure}
-use Rattle.command_operating.proofs.OpeningLemmas.{charge_within, not_read}
+use Rattle.command_operating.proofs.OpeningLemmas.{charge_within, fails_reading, not_read}
 use Rattle.command_operating.proofs.rules_file.file_of.Goals as goal
 
 pub returns-in-Ok-rules-clause-within : goal.returns-in-Ok-rules-clause-within
@@ -12,4 +12,5 @@ returns-clause-failed g c = λ is. not_read _ _ _ OutOfMemory (inr refl) c.repor
 
 pub returns-clause-device_failed : goal.returns-clause-device_failed
 returns-clause-device_failed g c =
-    ends_in_failure _ _ _ c.report-in-Err-OutOfMemory.result OutOfMemory c.report-in-Err-OutOfMemory.ensures.failed c.report-in-Err-OutOfMemory.ensures.told refl
+    ends_in_failure _ _ _ c.report-in-Err-OutOfMemory.result OutOfMemory c.report-in-Err-OutOfMemory.ensures.failed
+    (fails_reading _ _ _ OutOfMemory (inr refl) c.report-in-Err-OutOfMemory.ensures.told) refl
