@@ -4,6 +4,7 @@ ghost use Rattle.std.specs.Prelude.{◌≡◌, ◌≢◌, ◌↔◌, ◌≤◌, 
 ghost use Rattle.std.specs.List.{All};
 ghost use Rattle.versions.specs.declared.layout.TheConstants.{WORKERS};
 ghost use Rattle.dispatch.specs.Counted.{IsNewWorker};
+ghost use Rattle.command_streams.specs.Failures.{OutputFails};
 ghost use Rattle.command_flood.specs.Failing.{IsRunFailure};
 ghost use Rattle.command_flood.specs.Flood.{IsFlooded, WritesFlood};
 ghost use Rattle.command_flood.specs.FloodVersions.{opening_version, successor_at};
@@ -14,7 +15,8 @@ ghost use Rattle.command_flood.specs.declared.flood_versions.TheConstants.{PUBLI
 use crate::flood_jobs::jobs;
 use crate::flood_versions::{opening, successors};
 use command_line::Failure;
-use dispatch::{Gate, RunFault, Tally, Totals, gather, run_counted, write_totals};
+use command_streams::{CountedWrite, CountedWriter};
+use dispatch::{Gate, RunFault, Tally, Totals, gather, run_counted};
 use member_group::Config;
 use read_section::{Operator, WORKERS, Worker, open_within, spread};
 use retire::Retire;
@@ -22,6 +24,7 @@ use std::alloc::{AllocError, Global};
 use std::io::Write;
 use std::sync::Wait;
 use std::thread::Threads;
+use totals_line::write_totals;
 
 // The table at its opening version, and the versions that follow.
 fn open_versions(alloc: Global) -> Result<(Operator, Vec<Worker>, Vec<Config>), AllocError>
@@ -78,6 +81,27 @@ fn count_all<R: Threads + Wait + Sync, G: Gate + Sync>(
     }
 }
 
+/// Judges the datagrams, as `flood` does, and writes the totals to an output whose failures are counted.
+pub fn flood_over<R: Threads + Wait + Sync, G: Gate + Sync, W: CountedWrite>(
+    rt: &R,
+    alloc: Global,
+    workers: usize,
+    datagrams: usize,
+    gate: &G,
+    out: &mut W,
+) -> Result<(), Failure>
+    requires at_least_one { 1 ≤ workers }
+    requires at_most { workers ≤ WORKERS }
+    ensures totals_line { OnOk result (WritesFlood workers datagrams (W.contents out.old) (W.contents out.new)) }
+    ensures nothing_written { IfErr result (λ failure. failure ≢ Failure.WriteFailed → out.new ≡ out.old) }
+    ensures no_input { IfErr result (λ failure. (failure ≢ Failure.ReadFailed) × (failure ≢ Failure.NoAnswer) × (failure ≢ Failure.RulesChanged)) }
+    ensures no_socket { IfErr result (λ failure. (failure ≢ Failure.BindFailed) × (failure ≢ Failure.PollFailed)) }
+    ensures device_failed { OutputFails result (W.failures out.old) (W.failures out.new) }
+{
+    let totals = count_all(rt, alloc, workers, datagrams, gate)?;
+    write_totals(&totals, out)
+}
+
 /// Judges `datagrams` datagrams in the threads of `workers` workers, while the caller's thread tries to publish 64 versions. Then writes
 /// the line of the totals. Datagram `i` goes to worker `i mod workers`.
 ///
@@ -97,6 +121,8 @@ pub fn flood<R: Threads + Wait + Sync, G: Gate + Sync, W: Write>(
     ensures no_input { IfErr result (λ failure. (failure ≢ Failure.ReadFailed) × (failure ≢ Failure.NoAnswer) × (failure ≢ Failure.RulesChanged)) }
     ensures no_socket { IfErr result (λ failure. (failure ≢ Failure.BindFailed) × (failure ≢ Failure.PollFailed)) }
 {
-    let totals = count_all(rt, alloc, workers, datagrams, gate)?;
-    write_totals(&totals, out).map_err(|_| Failure::WriteFailed)
+    let mut results = CountedWriter::new(out);
+    let ended = flood_over(rt, alloc, workers, datagrams, gate, &mut results);
+    let _ = results.into_inner();
+    ended
 }

@@ -1,10 +1,13 @@
 //! The command `flood`: datagrams from memory are judged by worker threads while versions are replaced (docs/COMMANDS.md, "flood").
 //!
-//! `run_flood` runs the command and returns its exit status. `flood` takes any gate, and returns why it failed.
+//! `run_flood` runs the command and returns its exit status. `flood` takes any gate, and returns why it failed; `flood_over` is `flood`
+//! over an output whose failures are counted.
 #![tactic(auto)]
 
 ghost use Rattle.std.specs.Prelude.{◌≡◌, ◌⊎◌, [], Some};
 ghost use Rattle.command_line.specs.CommandLine.{datagrams_in};
+ghost use Rattle.command_line.specs.Ending.{AppendsBeginning, line_of};
+ghost use Rattle.command_streams.specs.Endings.{EndsByCause};
 ghost use Rattle.command_flood.specs.Failing.{EndsInFloodFailure};
 ghost use Rattle.command_flood.specs.Flood.{WritesFlood};
 ghost use Rattle.command_flood.specs.declared.flood_jobs.TheConstants.{LIMIT};
@@ -16,8 +19,9 @@ mod flooding;
 mod traffic;
 
 use command_line::{Status, Workers};
+use command_streams::CountedWrite;
 use dispatch::OpenGate;
-pub use flooding::flood;
+pub use flooding::{flood, flood_over};
 use std::alloc::Global;
 use std::io::Write;
 use std::sync::Wait;
@@ -35,7 +39,7 @@ pub fn limits_as_numbers()
 {}
 
 /// Runs the command, and returns the exit status.
-pub fn run_flood<R: Threads + Wait + Sync, W: Write, E: Write>(
+pub fn run_flood<R: Threads + Wait + Sync, W: CountedWrite, E: Write>(
     rt: &R,
     alloc: Global,
     workers: Workers,
@@ -48,8 +52,10 @@ pub fn run_flood<R: Threads + Wait + Sync, W: Write, E: Write>(
     ensures done_or_failed { (result ≡ Status.Done) ⊎ (result ≡ Status.Failed) }
     ensures failed { result ≡ Status.Failed
         → EndsInFloodFailure (W.contents out.old) (W.contents out.new) (E.contents errs.old) (E.contents errs.new) }
+    ensures device_failed { EndsByCause (λ cause. AppendsBeginning (E.contents errs.old) (E.contents errs.new) (line_of cause)) result
+        (W.failures out.old) (W.failures out.new) }
 {
-    match flood(rt, alloc, workers.count, datagrams, &OpenGate, out) {
+    match flood_over(rt, alloc, workers.count, datagrams, &OpenGate, out) {
         Ok(()) => Status::Done,
         Err(failure) => failure.report(errs),
     }

@@ -1,5 +1,5 @@
 use Rattle.std.proofs.Common.{rules}
-use Rattle.command_flood.proofs.flooding.flood.Goals as goal
+use Rattle.command_flood.proofs.flooding.flood_over.Goals as goal
 
 pub returns-clause-no_socket : goal.returns-clause-no_socket
 returns-clause-no_socket g c = search rules

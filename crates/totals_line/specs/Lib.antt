@@ -1,0 +1,3 @@
+pub mod body
+pub use Rattle.command_streams.specs.Failures
+pub use Rattle.dispatch.specs.Totals
