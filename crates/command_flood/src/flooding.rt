@@ -16,6 +16,7 @@ use crate::flood_jobs::jobs;
 use crate::flood_versions::{opening, successors};
 use command_line::Failure;
 use command_streams::{CountedWrite, CountedWriter};
+use command_totals::write_totals;
 use dispatch::{Gate, RunFault, Tally, Totals, gather, run_counted};
 use member_group::Config;
 use read_section::{Operator, WORKERS, Worker, open_within, spread};
@@ -24,7 +25,6 @@ use std::alloc::{AllocError, Global};
 use std::io::Write;
 use std::sync::Wait;
 use std::thread::Threads;
-use totals_line::write_totals;
 
 // The table at its opening version, and the versions that follow.
 fn open_versions(alloc: Global) -> Result<(Operator, Vec<Worker>, Vec<Config>), AllocError>

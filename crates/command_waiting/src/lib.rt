@@ -17,7 +17,7 @@ use command_line::{Status, Waiting};
 use command_operating::{
     Draining, Loading, Watching, run_drain, run_load, run_metrics, run_rules, run_tell, run_top,
 };
-use command_streams::CountedWriter;
+use command_streams::{CountedWrite, CountedWriter};
 use logging::ServeLog;
 pub use serve_udp::{serve, serve_direct, serve_with};
 use serving::run_serve;
@@ -36,6 +36,39 @@ pub fn run_waiting<
     R: Threads + Wait + Net + Clock + Files + Sync,
     I: Read + Drop,
     W: Write,
+    E: Write,
+    L: Write + Drop,
+>(
+    rt: &R,
+    alloc: Global,
+    command: Waiting<'_>,
+    input: I,
+    log: L,
+    terminal: bool,
+    out: &mut W,
+    errs: &mut E,
+) -> Status
+    ensures done { result ≡ Status.Done → WritesFor terminal (waiting_of command.entry) (I.remaining input) (W.contents out.old) (W.contents out.new)
+        (E.contents errs.old) (E.contents errs.new) }
+    ensures refused { result ≡ Status.Refused → WritesRefusal (waiting_of command.entry) (I.remaining input) (W.contents out.old) (W.contents out.new)
+        (E.contents errs.old) (E.contents errs.new) }
+    ensures no_errors { (result ≡ Status.Done) ⊎ ((result ≡ Status.Refused) × ShowsNoRefusal (waiting_of command.entry)) → errs.new ≡ errs.old }
+    ensures never_misused { result ≡ Status.Misused → ⊥ }
+    ensures failed { result ≡ Status.Failed
+        → EndsInWaitingFailure terminal (waiting_of command.entry) (I.remaining input) (W.contents out.old) (W.contents out.new)
+        (E.contents errs.old) (E.contents errs.new) }
+{
+    let mut results = CountedWriter::new(out);
+    let status = run_over(rt, alloc, command, input, log, terminal, &mut results, errs);
+    let _ = results.into_inner();
+    status
+}
+
+// Runs a command that may wait over an output whose failures are counted.
+fn run_over<
+    R: Threads + Wait + Net + Clock + Files + Sync,
+    I: Read + Drop,
+    W: CountedWrite,
     E: Write,
     L: Write + Drop,
 >(
@@ -87,19 +120,11 @@ pub fn run_waiting<
             all,
             lines,
         } => {
-            let mut results = CountedWriter::new(out);
             let told = (control, timeout, all);
             let words = lines.as_slice();
-            let status = run_tell(rt, alloc, told, words, input, &mut results, errs);
-            let _ = results.into_inner();
-            status
+            run_tell(rt, alloc, told, words, input, out, errs)
         }
-        Waiting::Rules { control, timeout } => {
-            let mut results = CountedWriter::new(out);
-            let status = run_rules(rt, alloc, control, timeout, &mut results, errs);
-            let _ = results.into_inner();
-            status
-        }
+        Waiting::Rules { control, timeout } => { run_rules(rt, alloc, control, timeout, out, errs) }
         Waiting::Load {
             control,
             timeout,
@@ -114,10 +139,7 @@ pub fn run_waiting<
                 check,
                 diff,
             };
-            let mut results = CountedWriter::new(out);
-            let status = run_load(rt, alloc, loading, &mut results, errs);
-            let _ = results.into_inner();
-            status
+            run_load(rt, alloc, loading, out, errs)
         }
         Waiting::Drain {
             control,
@@ -131,21 +153,15 @@ pub fn run_waiting<
                 key,
                 member,
             };
-            let mut results = CountedWriter::new(out);
-            let status = run_drain(rt, alloc, draining, &mut results, errs);
-            let _ = results.into_inner();
-            status
+            run_drain(rt, alloc, draining, out, errs)
         }
         Waiting::Metrics {
             control,
             front,
             timeout,
         } => {
-            let mut results = CountedWriter::new(out);
             let addresses = (control, front);
-            let status = run_metrics(rt, alloc, addresses, timeout, &mut results, errs);
-            let _ = results.into_inner();
-            status
+            run_metrics(rt, alloc, addresses, timeout, out, errs)
         }
         Waiting::Top {
             control,
@@ -160,10 +176,7 @@ pub fn run_waiting<
                 timeout,
                 clears: terminal,
             };
-            let mut results = CountedWriter::new(out);
-            let status = run_top(rt, alloc, watching, &mut results, errs);
-            let _ = results.into_inner();
-            status
+            run_top(rt, alloc, watching, out, errs)
         }
     }
 }

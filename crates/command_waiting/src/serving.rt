@@ -1,15 +1,13 @@
 //! The command `serve`: the switch on its sockets (docs/COMMANDS.md, "serve").
 
-ghost use Rattle.std.specs.Prelude.{◌≡◌, ◌≤◌, ◌⊎◌, IfErr, IfOk, IsSome, None, OnOk, codes, option_map, vec_len};
-ghost use Rattle.std.specs.Io.KnownBytes.{Appends};
+ghost use Rattle.std.specs.Prelude.{◌≡◌, ◌≤◌, ◌⊎◌, IfOk, None, option_map, vec_len};
 ghost use Rattle.member_group.specs.Charge.{charge_of};
 ghost use Rattle.versions.specs.declared.layout.TheConstants.{CHARGE_LIMIT};
-ghost use Rattle.command_line.specs.Ending.{AppendsBeginning, line_of};
-ghost use Rattle.command_line.specs.declared.ending.Failure.TheVariants as failure;
-ghost use Rattle.command_operating.specs.Opening.{EndsUnread, IsOpening, RefusesRules};
+ghost use Rattle.command_line.specs.Ending.{AppendsBeginning};
+ghost use Rattle.command_streams.specs.Endings.{EndsByCause};
 ghost use Rattle.serve_udp.specs.Front.{HasFronts};
 ghost use Rattle.serve_udp.specs.Service.{WritesServedFrom};
-ghost use Rattle.command_waiting.specs.Serving.{FailsServing, IsBindLine, socket_name};
+ghost use Rattle.command_waiting.specs.Serving.{FailsServing, IsBindLine, IsServeTold, socket_name};
 ghost use Rattle.command_waiting.specs.Waiting.{EndsInServeFailure, RefusesService, WritesService};
 
 use crate::logging::ServeLog;
@@ -17,7 +15,7 @@ use command_line::{
     ControlAddress, Failure, ReceiveBuffer, ReceiveWay, Status, Workers, write_whole,
 };
 use command_operating::{opening, refuse_address};
-use command_streams::CountedWriter;
+use command_streams::CountedWrite;
 use dispatch::OpenGate;
 use ipv4_fields::Endpoint;
 use member_group::Config;
@@ -74,7 +72,7 @@ fn show_bind_fault<E: Write>(alloc: Global, fault: &BindFault, errs: &mut E)
     }
 }
 
-fn report_bind<W: Write, E: Write>(
+fn report_bind<W: CountedWrite, E: Write>(
     alloc: Global,
     fault: &BindFault,
     out: &mut W,
@@ -82,6 +80,8 @@ fn report_bind<W: Write, E: Write>(
 ) -> Status
     ensures failed { result ≡ Status.Failed }
     ensures told { FailsServing (W.contents out.old) (W.contents out.new) (E.contents errs.old) (E.contents errs.new) }
+    ensures device_failed { EndsByCause (λ cause. IsServeTold cause (E.contents errs.old) (E.contents errs.new)) result
+        (W.failures out.old) (W.failures out.new) }
 {
     match fault {
         BindFault::OutOfMemory => Failure::OutOfMemory.report(errs),
@@ -93,7 +93,7 @@ fn report_bind<W: Write, E: Write>(
 }
 
 // Serves on bound sockets.
-fn serve_on<R: Threads + Wait + Net + Sync, W: Write, E: Write, L: Write + Drop>(
+fn serve_on<R: Threads + Wait + Net + Sync, W: CountedWrite, E: Write, L: Write + Drop>(
     rt: &R,
     config: Config,
     sockets: BoundSockets<'_>,
@@ -110,6 +110,8 @@ fn serve_on<R: Threads + Wait + Net + Sync, W: Write, E: Write, L: Write + Drop>
     ensures done_or_failed { (result ≡ Status.Done) ⊎ (result ≡ Status.Failed) }
     ensures failed { result ≡ Status.Failed
         → FailsServing (W.contents out.old) (W.contents out.new) (E.contents errs.old) (E.contents errs.new) }
+    ensures device_failed { EndsByCause (λ cause. IsServeTold cause (E.contents errs.old) (E.contents errs.new)) result
+        (W.failures out.old) (W.failures out.new) }
 {
     let Ok(mut log) = Log::new(*config.allocator(), lines) else {
         return Failure::OutOfMemory.report(errs);
@@ -121,7 +123,7 @@ fn serve_on<R: Threads + Wait + Net + Sync, W: Write, E: Write, L: Write + Drop>
 }
 
 // Binds the sockets, and serves. A socket file is removed at the end.
-fn serve_at<R: Threads + Wait + Net + Files + Sync, W: Write, E: Write, L: Write + Drop>(
+fn serve_at<R: Threads + Wait + Net + Files + Sync, W: CountedWrite, E: Write, L: Write + Drop>(
     rt: &R,
     config: Config,
     places: (FrontRequest, ControlAddress<'_>),
@@ -136,6 +138,8 @@ fn serve_at<R: Threads + Wait + Net + Files + Sync, W: Write, E: Write, L: Write
     ensures done_or_failed { (result ≡ Status.Done) ⊎ (result ≡ Status.Failed) }
     ensures failed { result ≡ Status.Failed
         → FailsServing (W.contents out.old) (W.contents out.new) (E.contents errs.old) (E.contents errs.new) }
+    ensures device_failed { EndsByCause (λ cause. IsServeTold cause (E.contents errs.old) (E.contents errs.new)) result
+        (W.failures out.old) (W.failures out.new) }
 {
     let (alloc, count) = (*config.allocator(), workers.count);
     match places.1 {
@@ -154,51 +158,12 @@ fn serve_at<R: Threads + Wait + Net + Files + Sync, W: Write, E: Write, L: Write
     }
 }
 
-// Refuses a text that is no address.
-fn refuse<W: Write, E: Write>(out: &mut W, errs: &mut E) -> Status
-    ensures refused { result ≡ Status.Refused → Appends (W.contents out.old) (W.contents out.new) (codes "refused C1\n") }
-    ensures no_errors { result ≡ Status.Refused → errs.new ≡ errs.old }
-    ensures never_done { result ≡ Status.Done → ⊥ }
-    ensures never_misused { result ≡ Status.Misused → ⊥ }
-    ensures failed { result ≡ Status.Failed → AppendsBeginning (E.contents errs.old) (E.contents errs.new) (line_of failure.WriteFailed) }
-{
-    let mut results = CountedWriter::new(out);
-    let status = refuse_address(&mut results, errs);
-    let _ = results.into_inner();
-    status
-}
-
-// The configuration to begin with.
-fn open_rules<R: Files, W: Write, E: Write>(
-    rt: &R,
-    alloc: Global,
-    file: Option<&str>,
-    out: &mut W,
-    errs: &mut E,
-) -> Result<Config, Status>
-    ensures made { IfOk result (λ config. IsOpening (option_map (λ name. name.now) file.entry) config) }
-    ensures within { IfOk result (λ config. charge_of config ≤ CHARGE_LIMIT) }
-    ensures unwritten { OnOk result (out.new ≡ out.old) }
-    ensures no_errors { OnOk result (errs.new ≡ errs.old) }
-    ensures refused { IfErr result (λ status. status ≡ Status.Refused
-        → IsSome file.entry × RefusesRules None (W.contents out.old) (W.contents out.new)) }
-    ensures never_done { IfErr result (λ status. status ≡ Status.Done → ⊥) }
-    ensures never_misused { IfErr result (λ status. status ≡ Status.Misused → ⊥) }
-    ensures failed { IfErr result (λ status. status ≡ Status.Failed
-        → IsSome file.entry × EndsUnread (W.contents out.old) (W.contents out.new) (E.contents errs.old) (E.contents errs.new)) }
-{
-    let mut results = CountedWriter::new(out);
-    let opened = opening(rt, alloc, file, &mut results, errs);
-    let _ = results.into_inner();
-    opened
-}
-
 #[tactic(auto, using(crate::proofs::FailureLemmas::fails_unread, crate::proofs::FailureLemmas::fails_serving, crate::proofs::FailureLemmas::named, crate::proofs::FailureLemmas::is_given))]
 /// Runs `serve` with the texts of both addresses, how the front receives, the name of a rules file if there is one, and the
 /// destination of the log's lines.
 pub(crate) fn run_serve<
     R: Threads + Wait + Net + Files + Sync,
-    W: Write,
+    W: CountedWrite,
     E: Write,
     L: Write + Drop,
 >(
@@ -223,14 +188,16 @@ pub(crate) fn run_serve<
     ensures failed { result ≡ Status.Failed
         → EndsInServeFailure addresses.entry.0.now addresses.entry.1.now (option_map (λ name. name.now) file.entry)
         (W.contents out.old) (W.contents out.new) (E.contents errs.old) (E.contents errs.new) }
+    ensures device_failed { EndsByCause (λ cause. IsServeTold cause (E.contents errs.old) (E.contents errs.new)) result
+        (W.failures out.old) (W.failures out.new) }
 {
     let Some(address) = Endpoint::from_text(addresses.0.as_bytes()) else {
-        return refuse(out, errs);
+        return refuse_address(out, errs);
     };
     let Some(control) = ControlAddress::from_text(addresses.1) else {
-        return refuse(out, errs);
+        return refuse_address(out, errs);
     };
-    let config = match open_rules(rt, alloc, file, out, errs) {
+    let config = match opening(rt, alloc, file, out, errs) {
         Ok(config) => config,
         Err(status) => return status,
     };

@@ -1,6 +1,6 @@
 //! The jobs of the service: a worker, a counter, a source and a socket of its own each (docs/COMMANDS.md, "serve").
 
-ghost use Rattle.std.specs.Prelude.{◌≡◌, ◌+◌, ◌++◌, ◌∷◌, ◌<◌, ◌≤◌, IfErr, IfOk, List, None, [], length, reverse, vec_capacity, vec_len, ℕ};
+ghost use Rattle.std.specs.Prelude.{◌≡◌, ◌≢◌, ◌+◌, ◌++◌, ◌∷◌, ◌<◌, ◌≤◌, IfErr, IfOk, List, None, [], length, reverse, vec_capacity, vec_len, ℕ};
 ghost use Rattle.dispatch.specs.Tally.{CounterValue};
 ghost use Rattle.read_section.specs.Worker.{WorkerValue};
 ghost use Rattle.serve_devices.specs.Devices.{new_outbox};
@@ -44,6 +44,7 @@ fn open_devices<'a, I: Ingress + Drop, R: Wait + Net>(
     ensures new { IfOk result (λ devices. devices.outbox ≡ new_outbox None) }
     ensures room { IfOk result (λ devices. HasRoom (length devices.buffer.items) LIMIT) }
     ensures no_input { IfErr result IsServeFailure }
+    ensures no_output { IfErr result (λ failure. failure ≢ Failure.WriteFailed) }
 {
     let Ok(buffer) = vec![in alloc; 0; LONGEST_DATAGRAM] else {
         return Err(Failure::OutOfMemory);
@@ -123,6 +124,7 @@ pub fn jobs<'a, I: Ingress + Drop, R: Wait + Net>(
     ensures made { IfOk result (λ jobs. AreMade workers seats.old.items seats.new.items counters.old.items counters.new.items jobs.items) }
     ensures sources { IfOk result (λ jobs. sources_of jobs.items ≡ reverse sources.items) }
     ensures no_input { IfErr result IsServeFailure }
+    ensures no_output { IfErr result (λ failure. failure ≢ Failure.WriteFailed) }
 {
     let Ok(mut jobs) = Vec::with_capacity(alloc, workers) else {
         return Err(Failure::OutOfMemory);

@@ -8,7 +8,7 @@
 ghost use Rattle.std.specs.Prelude.{◌≡◌, ◌≢◌, ◌⊎◌, ◌↔◌, ◌≤◌, Err, IfErr, IfOk, OnOk, length, vec_len};
 ghost use Rattle.member_group.specs.Charge.{charge_of};
 ghost use Rattle.versions.specs.declared.layout.TheConstants.{CHARGE_LIMIT, WORKERS};
-ghost use Rattle.dispatch.specs.Totals.{WritesTotals};
+ghost use Rattle.command_streams.specs.Failures.{OutputFails};
 ghost use Rattle.serve_udp.specs.declared.jobs.TheConstants.{LIMIT};
 ghost use Rattle.serve_udp.specs.Service.{AreStartsOf, IsServeFailure, WritesCounted, WritesReadyOrNothing, WritesServed, WritesServedAt, WritesServedFrom};
 ghost use Rattle.serve_udp.specs.Front.{HasFronts};
@@ -26,7 +26,9 @@ mod sockets;
 
 pub use bound::{BindFault, BoundSockets, bind_udp, bind_unix};
 use command_line::{ControlAddress, Failure, ReceiveWay};
-use dispatch::{Gate, NamedTally, RunFault, TallyName, Totals, gather, run_counted, write_totals};
+use command_streams::{CountedWrite, CountedWriter};
+use command_totals::write_totals;
+use dispatch::{Gate, NamedTally, RunFault, TallyName, Totals, gather, run_counted};
 use front::BoundFront;
 pub use front::FrontRequest;
 use intake::{Intake, direct_intake, queued_intake};
@@ -86,6 +88,7 @@ fn count_served<
     ensures totals { IfOk result (λ totals. AreTotalsOf jobs.entry.items totals) }
     ensures bound { IfErr result (λ failure. failure ≢ Failure.BindFailed) }
     ensures no_input { IfErr result IsServeFailure }
+    ensures no_output { IfErr result (λ failure. failure ≢ Failure.WriteFailed) }
 {
     let mut named = NamedTally::<N>::new(service.tally);
     let mut ended = Ended::PollFailed;
@@ -104,14 +107,6 @@ fn count_served<
     }
 }
 
-// Writes the line of the totals.
-fn write_last<W: Write>(totals: &Totals, out: &mut W) -> Result<(), Failure>
-    ensures written { OnOk result (WritesTotals totals.now (W.contents out.old) (W.contents out.new)) }
-    ensures failed { IfErr result (λ failure. failure ≡ Failure.WriteFailed) }
-{
-    write_totals(totals, out).map_err(|_| Failure::WriteFailed)
-}
-
 // Runs the service once it is known who receives. If it is known what the sources give, their jobs judged and counted
 // it.
 fn serve_intake<
@@ -119,7 +114,7 @@ fn serve_intake<
     I: Ingress + Drop + Send,
     R: Threads + Wait + Net + Sync,
     G: Gate + Sync,
-    W: Write,
+    W: CountedWrite,
     L: LogLines,
 >(
     rt: &'a R,
@@ -141,6 +136,7 @@ fn serve_intake<
     ensures no_input { IfErr result IsServeFailure }
     ensures not_bound { result ≡ Err Failure.BindFailed → out.new ≡ out.old }
     ensures ready_or_nothing { IfErr result (λ failure. failure ≢ Failure.WriteFailed → WritesReadyOrNothing (W.contents out.old) (W.contents out.new)) }
+    ensures device_failed { OutputFails result (W.failures out.old) (W.failures out.new) }
 {
     let alloc = *config.allocator();
     let front = sockets.address;
@@ -149,7 +145,7 @@ fn serve_intake<
         return Err(failure);
     }
     let totals = count_served::<Brand, L, I, R, G>(rt, alloc, jobs, service, counts, gate, log)?;
-    write_last(&totals, out)
+    write_totals(&totals, out)
 }
 
 /// Runs the switch on its sockets until a control request says `stop`, and then writes the line of the totals.
@@ -161,7 +157,7 @@ fn serve_intake<
 /// All memory except that of the threads, of queued datagrams, of control and of counters by member is taken before the
 /// line `ready`, from the configuration's allocator. The call may wait, since nothing says that it is ever asked to
 /// stop.
-pub fn serve_bound<R: Threads + Wait + Net + Sync, G: Gate + Sync, W: Write, L: LogLines>(
+pub fn serve_bound<R: Threads + Wait + Net + Sync, G: Gate + Sync, W: CountedWrite, L: LogLines>(
     rt: &R,
     config: Config,
     sockets: BoundSockets<'_>,
@@ -179,6 +175,7 @@ pub fn serve_bound<R: Threads + Wait + Net + Sync, G: Gate + Sync, W: Write, L: 
     ensures no_input { IfErr result IsServeFailure }
     ensures not_bound { result ≡ Err Failure.BindFailed → out.new ≡ out.old }
     ensures ready_or_nothing { IfErr result (λ failure. failure ≢ Failure.WriteFailed → WritesReadyOrNothing (W.contents out.old) (W.contents out.new)) }
+    ensures device_failed { OutputFails result (W.failures out.old) (W.failures out.new) }
 {
     let alloc = *config.allocator();
     let counts = Mutex::new(MemberTable::new(alloc));
@@ -211,7 +208,38 @@ pub fn serve_bound<R: Threads + Wait + Net + Sync, G: Gate + Sync, W: Write, L: 
     }
 }
 
-// Runs the switch on two UDP sockets that it binds, without a log.
+/// Runs the switch, as `serve_with` does, but receives at the front as `front` says. The failures of the output are counted.
+pub fn serve_over<R: Threads + Wait + Net + Sync, G: Gate + Sync, W: CountedWrite>(
+    rt: &R,
+    config: Config,
+    front: FrontRequest,
+    control: Endpoint,
+    workers: usize,
+    gate: &G,
+    out: &mut W,
+) -> Result<(), Failure>
+    requires within { charge_of config ≤ CHARGE_LIMIT }
+    requires at_least_one { 1 ≤ workers }
+    requires at_most { workers ≤ WORKERS }
+    ensures served { OnOk result (WritesServedFrom config workers (W.contents out.old) (W.contents out.new)) }
+    ensures no_input { IfErr result IsServeFailure }
+    ensures not_bound { result ≡ Err Failure.BindFailed → out.new ≡ out.old }
+    ensures ready_or_nothing { IfErr result (λ failure. failure ≢ Failure.WriteFailed → WritesReadyOrNothing (W.contents out.old) (W.contents out.new)) }
+    ensures device_failed { OutputFails result (W.failures out.old) (W.failures out.new) }
+{
+    let alloc = *config.allocator();
+    let Ok(mut log) = Log::new(alloc, NoLog) else {
+        return Err(Failure::OutOfMemory);
+    };
+    let sockets = match bind_udp(rt, alloc, front, control, workers) {
+        Ok(sockets) => sockets,
+        Err(BindFault::OutOfMemory) => return Err(Failure::OutOfMemory),
+        Err(_) => return Err(Failure::BindFailed),
+    };
+    serve_bound(rt, config, sockets, workers, gate, out, &mut log)
+}
+
+// Runs the switch, as `serve_over` does, over a writer.
 fn serve_by<R: Threads + Wait + Net + Sync, G: Gate + Sync, W: Write>(
     rt: &R,
     config: Config,
@@ -229,16 +257,10 @@ fn serve_by<R: Threads + Wait + Net + Sync, G: Gate + Sync, W: Write>(
     ensures not_bound { result ≡ Err Failure.BindFailed → out.new ≡ out.old }
     ensures ready_or_nothing { IfErr result (λ failure. failure ≢ Failure.WriteFailed → WritesReadyOrNothing (W.contents out.old) (W.contents out.new)) }
 {
-    let alloc = *config.allocator();
-    let Ok(mut log) = Log::new(alloc, NoLog) else {
-        return Err(Failure::OutOfMemory);
-    };
-    let sockets = match bind_udp(rt, alloc, front, control, workers) {
-        Ok(sockets) => sockets,
-        Err(BindFault::OutOfMemory) => return Err(Failure::OutOfMemory),
-        Err(_) => return Err(Failure::BindFailed),
-    };
-    serve_bound(rt, config, sockets, workers, gate, out, &mut log)
+    let mut results = CountedWriter::new(out);
+    let ended = serve_over(rt, config, front, control, workers, gate, &mut results);
+    let _ = results.into_inner();
+    ended
 }
 
 /// Runs the switch, as `serve_bound` does, on two UDP sockets that it binds, without a log. A port 0 lets the system pick one.

@@ -62,6 +62,7 @@ fn open_sockets<'a, N: Net>(
     control: BoundControl,
 ) -> Result<Sockets<'a>, Failure>
     ensures no_input { IfErr result IsServeFailure }
+    ensures no_output { IfErr result (λ failure. failure ≢ Failure.WriteFailed) }
     ensures bound { IfErr result (λ failure. failure ≢ Failure.BindFailed) }
 {
     let Ok(room) = Room::new(alloc) else {
@@ -88,6 +89,7 @@ fn open_ends(config: Config) -> Result<Ends, Failure>
     ensures opening { IfOk result (λ ends. All (IsNewWorker config ends.operator.table) ends.seats.items) }
     ensures counters { IfOk result (λ ends. AreOpenedCounters ends.tally.table ends.counters.items) }
     ensures no_input { IfErr result IsServeFailure }
+    ensures no_output { IfErr result (λ failure. failure ≢ Failure.WriteFailed) }
 {
     let alloc = *config.allocator();
     let Ok((operator, seats)) = open_table(config) else {
@@ -111,6 +113,8 @@ fn both<'a, I: Ingress + Drop, R: Wait + Net>(
 ) -> Result<(Vec<ServiceJob<'a, I, R>>, Sockets<'a>), Failure>
     ensures jobs { IfOk result (λ both. jobs.entry ≡ Ok both.0) }
     ensures no_input { IfErr jobs.entry IsServeFailure → IfErr sockets.entry IsServeFailure → IfErr result IsServeFailure }
+    ensures no_output { IfErr jobs.entry (λ failure. failure ≢ Failure.WriteFailed) → IfErr sockets.entry (λ failure. failure ≢ Failure.WriteFailed)
+        → IfErr result (λ failure. failure ≢ Failure.WriteFailed) }
 {
     let jobs = jobs?;
     Ok((jobs, sockets?))
@@ -136,6 +140,7 @@ fn open_over<'a, I: Ingress + Drop, R: Wait + Net>(
         → IfOk result (λ opened. HaveNewWorkers opening opened.1.receiver.operator.table opened.0.items) }
     ensures opened { IfOk result (λ opened. AreOpened opened.1.tally.table opened.1.spare.items intake.entry.sources.items opened.0.items) }
     ensures no_input { IfErr result IsServeFailure }
+    ensures no_output { IfErr result (λ failure. failure ≢ Failure.WriteFailed) }
 {
     let Intake { sources, receiving } = intake;
     let ServiceSockets {
@@ -184,6 +189,7 @@ pub fn open_service<'a, I: Ingress + Drop, R: Wait + Net>(
     ensures new_workers { IfOk result (λ opened. HaveNewWorkers config opened.1.receiver.operator.table opened.0.items) }
     ensures opened { IfOk result (λ opened. AreOpened opened.1.tally.table opened.1.spare.items intake.entry.sources.items opened.0.items) }
     ensures no_input { IfErr result IsServeFailure }
+    ensures no_output { IfErr result (λ failure. failure ≢ Failure.WriteFailed) }
 {
     let alloc = *config.allocator();
     let ends = open_ends(config)?;

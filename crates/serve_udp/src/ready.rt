@@ -3,14 +3,14 @@
 ghost use Rattle.std.specs.Prelude.{◌≡◌, ◌++◌, IfErr, OnOk, codes};
 ghost use Rattle.std.specs.Io.KnownBytes.{Appends};
 ghost use Rattle.command_line.specs.ControlAddress.{address_text};
+ghost use Rattle.command_streams.specs.Failures.{OutputFails};
 ghost use Rattle.ipv4_fields.specs.Endpoint.{endpoint_text};
 ghost use Rattle.serve_udp.specs.Service.{WritesReady, ready_front};
 
 use command_line::{ControlAddress, Failure};
+use command_streams::{CountedWrite, write_through, write_whole};
 use control_line::Reply;
 use ipv4_fields::Endpoint;
-use std::io;
-use std::io::Write;
 
 // The line up to the address of control.
 fn ready_front(front: Endpoint) -> Reply
@@ -23,23 +23,29 @@ fn ready_front(front: Endpoint) -> Reply
     line
 }
 
-fn write_endpoint<W: Write>(endpoint: Endpoint, out: &mut W) -> io::Result<()>
-    ensures { OnOk result (Appends (W.contents out.old) (W.contents out.new) (endpoint_text endpoint)) }
+fn write_endpoint<W: CountedWrite>(endpoint: Endpoint, out: &mut W) -> Result<(), Failure>
+    ensures failed { IfErr result (λ failure. failure ≡ Failure.WriteFailed) }
+    ensures written { OnOk result (Appends (W.contents out.old) (W.contents out.new) (endpoint_text endpoint)) }
+    ensures device_failed { OutputFails result (W.failures out.old) (W.failures out.new) }
 {
     let mut text = Reply::empty();
     endpoint.append_to(&mut text);
-    out.write_all(text.bytes())
+    write_whole(text.bytes(), out)
 }
 
-fn write_path<W: Write>(path: &str, out: &mut W) -> io::Result<()>
-    ensures { OnOk result (Appends (W.contents out.old) (W.contents out.new) (codes "unix:" ++ path.now)) }
+fn write_path<W: CountedWrite>(path: &str, out: &mut W) -> Result<(), Failure>
+    ensures failed { IfErr result (λ failure. failure ≡ Failure.WriteFailed) }
+    ensures written { OnOk result (Appends (W.contents out.old) (W.contents out.new) (codes "unix:" ++ path.now)) }
+    ensures device_failed { OutputFails result (W.failures out.old) (W.failures out.new) }
 {
-    out.write_all(b"unix:".as_slice())?;
-    out.write_all(path.as_bytes())
+    write_whole(b"unix:".as_slice(), out)?;
+    write_whole(path.as_bytes(), out)
 }
 
-fn write_address<W: Write>(control: ControlAddress<'_>, out: &mut W) -> io::Result<()>
-    ensures { OnOk result (Appends (W.contents out.old) (W.contents out.new) (address_text control.entry)) }
+fn write_address<W: CountedWrite>(control: ControlAddress<'_>, out: &mut W) -> Result<(), Failure>
+    ensures failed { IfErr result (λ failure. failure ≡ Failure.WriteFailed) }
+    ensures written { OnOk result (Appends (W.contents out.old) (W.contents out.new) (address_text control.entry)) }
+    ensures device_failed { OutputFails result (W.failures out.old) (W.failures out.new) }
 {
     match control {
         ControlAddress::Udp(endpoint) => write_endpoint(endpoint, out),
@@ -47,28 +53,17 @@ fn write_address<W: Write>(control: ControlAddress<'_>, out: &mut W) -> io::Resu
     }
 }
 
-fn write_line<W: Write>(front: Endpoint, control: ControlAddress<'_>, out: &mut W) -> io::Result<()>
-    ensures { OnOk result (WritesReady front control.entry (W.contents out.old) (W.contents out.new)) }
-{
-    out.write_all(ready_front(front).bytes())?;
-    write_address(control, out)?;
-    out.write_all(b"\n".as_slice())
-}
-
 /// Writes the line with the addresses of both sockets, and flushes it.
-pub fn write_ready<W: Write>(
+pub fn write_ready<W: CountedWrite>(
     front: Endpoint,
     control: ControlAddress<'_>,
     out: &mut W,
 ) -> Result<(), Failure>
     ensures failed { IfErr result (λ failure. failure ≡ Failure.WriteFailed) }
     ensures written { OnOk result (WritesReady front control.entry (W.contents out.old) (W.contents out.new)) }
+    ensures device_failed { OutputFails result (W.failures out.old) (W.failures out.new) }
 {
-    let Ok(()) = write_line(front, control, out) else {
-        return Err(Failure::WriteFailed);
-    };
-    let Ok(()) = out.flush() else {
-        return Err(Failure::WriteFailed);
-    };
-    Ok(())
+    write_whole(ready_front(front).bytes(), out)?;
+    write_address(control, out)?;
+    write_through(b"\n".as_slice(), out)
 }

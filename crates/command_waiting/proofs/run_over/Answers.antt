@@ -1,5 +1,5 @@
 use Rattle.std.proofs.Common.{rules}
-use Rattle.command_waiting.proofs.run_waiting.Goals as goal
+use Rattle.command_waiting.proofs.run_over.Goals as goal
 
 pub returns-in-Flood-clause-done : goal.returns-in-Flood-clause-done
 returns-in-Flood-clause-done g c = search rules

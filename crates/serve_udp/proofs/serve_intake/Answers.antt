@@ -13,14 +13,14 @@ use Rattle.serve_udp.proofs.serve_intake.Goals as goal
 
 pub returns-clause-not_bound : goal.returns-clause-not_bound
 returns-clause-not_bound g c =
-    let failed = c.write_last.ensures.failed in
+    let failed = c.write_totals.ensures.failed in
     search rules
 
 pub returns-clause-no_input : goal.returns-clause-no_input
-returns-clause-no_input g c = only_writes _ c.write_last.ensures.failed
+returns-clause-no_input g c = only_writes _ c.write_totals.ensures.failed
 
 pub returns-clause-ready_or_nothing : goal.returns-clause-ready_or_nothing
-returns-clause-ready_or_nothing g c = only_writes_end _ _ _ c.write_last.ensures.failed
+returns-clause-ready_or_nothing g c = only_writes_end _ _ _ c.write_totals.ensures.failed
 
 pub returns-clause-served : goal.returns-clause-served
 returns-clause-served g c =
@@ -37,7 +37,7 @@ returns-clause-served g c =
           (All-weaker (λ job. job.outbox ≡ new_outbox None) (λ job. HasSilentOutbox (parts_of_job _ _ job)) (λ job new. ap (λ (o : MemberOutboxValue). o.outbox) new) jobs opened.new_outboxes);
     })
     c.in_ok-totals.totals totals.sum_exact in
-    let written = c.write_last.ensures.written in
+    let written = c.write_totals.ensures.written in
     search rules
 
 pub returns-in_err-jobs-clause-not_bound : goal.returns-in_err-jobs-clause-not_bound

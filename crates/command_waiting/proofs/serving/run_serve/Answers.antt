@@ -1,13 +1,15 @@
 use Rattle.std.proofs.Common.{Bor, List, rules, sym, ◌∙◌, ℕ}
+use Rattle.command_streams.proofs.OutputLemmas.{ends_as, ends_unwritten}
+use Rattle.command_waiting.specs.Serving.{told_alone}
 use Rattle.command_waiting.specs.Waiting.{no_rules}
 use Rattle.command_waiting.proofs.FailureLemmas.{fails_unwritten, named}
 use Rattle.command_waiting.proofs.serving.run_serve.Goals as goal
 
 pub returns-in_default-clause-failed : goal.returns-in_default-clause-failed
-returns-in_default-clause-failed g c = λ is. fails_unwritten _ _ _ _ _ _ _ (c.refuse.ensures.failed is)
+returns-in_default-clause-failed g c = λ is. fails_unwritten _ _ _ _ _ _ _ (c.refuse_address.ensures.failed is)
 
 pub returns-in_default-from_text-clause-failed : goal.returns-in_default-from_text-clause-failed
-returns-in_default-from_text-clause-failed g c = λ is. fails_unwritten _ _ _ _ _ _ _ (c.refuse-in_default-from_text.ensures.failed is)
+returns-in_default-from_text-clause-failed g c = λ is. fails_unwritten _ _ _ _ _ _ _ (c.refuse_address-in_default-from_text.ensures.failed is)
 
 pub returns-in_default-from_text-clause-refused : goal.returns-in_default-from_text-clause-refused
 returns-in_default-from_text-clause-refused g c = search rules
@@ -23,3 +25,15 @@ returns-in-Err-clause-refused g c = λ is.
     (c.in-Some.address, c.in-Some.ensures.0, sym c.as_bytes.ensures.value ∙ c.in-Some.ensures.1)
     (c.in-Some-from_text.control, c.in-Some-from_text.ensures)
     refused.1
+
+pub returns-in_default-clause-device_failed : goal.returns-in_default-clause-device_failed
+returns-in_default-clause-device_failed g c =
+    ends_unwritten _ _ _ c.refuse_address.result (λ is. told_alone (c.refuse_address.ensures.failed is)) c.refuse_address.ensures.device_failed
+
+pub returns-in_default-from_text-clause-device_failed : goal.returns-in_default-from_text-clause-device_failed
+returns-in_default-from_text-clause-device_failed g c =
+    let refused = c.refuse_address-in_default-from_text in
+    ends_unwritten _ _ _ refused.result (λ is. told_alone (refused.ensures.failed is)) refused.ensures.device_failed
+
+pub returns-in-Err-clause-device_failed : goal.returns-in-Err-clause-device_failed
+returns-in-Err-clause-device_failed g c = ends_as _ _ _ _ _ (λ failure told. told_alone told) c.in-Err.ensures.device_failed

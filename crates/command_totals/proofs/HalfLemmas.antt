@@ -7,7 +7,7 @@ use Rattle.packet_verdict.specs.declared.kind.Kind.TheVariants.{Delivered, Recei
 use Rattle.dispatch.specs.declared.kind.Totals.{Totals}
 use Rattle.dispatch.specs.Tally.{total_of}
 use Rattle.dispatch.specs.Totals.{WritesTotals, totals_text}
-use Rattle.totals_line.specs.body.Halves.{first_half, second_half}
+use Rattle.command_totals.specs.body.Halves.{first_half, second_half}
 
 one_more : (first more piece all : List ℕ) → first ++ more ≡ all → first ++ (more ++ piece) ≡ all ++ piece
 one_more first more piece all is = sym (append_assoc first more piece) ∙ ap (λ (l : List ℕ). l ++ piece) is

@@ -1,8 +1,8 @@
 use Rattle.std.proofs.Common.{◌∙◌, subst}
 use Rattle.std.proofs.lemmas.Result.{on_ok_weaker}
 use Rattle.std.specs.Io.KnownBytes.{Appends}
-use Rattle.totals_line.proofs.HalfLemmas.{writes_totals}
-use Rattle.totals_line.proofs.write_totals.Goals as goal
+use Rattle.command_totals.proofs.HalfLemmas.{writes_totals}
+use Rattle.command_totals.proofs.write_totals.Goals as goal
 
 pub returns-clause-written : goal.returns-clause-written
 returns-clause-written g c =

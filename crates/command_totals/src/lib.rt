@@ -6,7 +6,7 @@
 ghost use Rattle.std.specs.Prelude.{◌≡◌, ◌++◌, IfErr, OnOk, codes};
 ghost use Rattle.command_streams.specs.Failures.{OutputFails};
 ghost use Rattle.dispatch.specs.Totals.{WritesTotals};
-ghost use Rattle.totals_line.specs.body.Halves.{first_half, second_half};
+ghost use Rattle.command_totals.specs.body.Halves.{first_half, second_half};
 
 use command_line::Failure;
 use command_streams::{CountedWrite, write_through, write_whole};
