@@ -1,5 +1,5 @@
 -- Lines that are told one by one, or as one change, and what is shown of them.
-use Rattle.std.proofs.Common.{◌≡◌, ◌∙◌, ◌||◌, ◌++◌, ◌∷◌, ◌⊎◌, Bool, Err, List, None, Ok, Option, Result, [], ap, false, inl, inr, refl, subst, sym, true, ℕ}
+use Rattle.std.proofs.Common.{◌≡◌, ◌≢◌, ◌∙◌, ◌||◌, ◌++◌, ◌∷◌, ◌⊎◌, Bool, Err, List, None, Ok, Option, Result, [], ap, false, inl, inr, refl, subst, suc, sym, true, ℕ, arith}
 use Rattle.std.specs.Prelude.{IfErr, IfOk, OnErr}
 use Rattle.clap.specs.Words.{Text}
 use Rattle.control_client.specs.Exchange.{has_refusal, is_refusal}
@@ -10,6 +10,9 @@ use Rattle.command_line.specs.declared.control_address.ControlAddress.{ControlAd
 use Rattle.command_line.specs.declared.control_address.ControlAddress.TheVariants.{Udp, Unix}
 use Rattle.command_line.specs.declared.ending.Failure.{Failure}
 use Rattle.command_line.specs.declared.ending.Failure.TheVariants.{OutOfMemory}
+use Rattle.command_line.specs.declared.ending.Failure.TheVariants as failure
+use Rattle.command_streams.specs.Failures.{FailuresValue, InputFails}
+use Rattle.control_client.specs.Lines.{LinesFail}
 use Rattle.command_line.specs.declared.ending.Status.TheVariants.{Done, Refused}
 use Rattle.control_client.specs.declared.device.Peer.{Peer}
 use Rattle.control_line.specs.Answer.{NumberedLine}
@@ -155,3 +158,61 @@ one_each words is = simp is refl
 
 pub all_one : (words : List Text) → is_one_line words ≡ true → lines_of_words words ≡ joined words ∷ []
 all_one words is = simp is refl
+
+-- ---- reads of the input that failed
+
+pub input_fails : {A : Type 0} (result : Result A Failure) (before after : FailuresValue) → LinesFail result before after → InputFails result before.count after.count
+input_fails (Ok done) before after fails = ap (λ (f : FailuresValue). f.count) fails
+input_fails (Err failure.ReadFailed) before after fails = ap (λ (f : FailuresValue). f.count) fails
+input_fails (Err failure.WriteFailed) before after fails = ap (λ (f : FailuresValue). f.count) fails
+input_fails (Err failure.OutOfMemory) before after fails = ap (λ (f : FailuresValue). f.count) fails
+input_fails (Err failure.SpawnFailed) before after fails = ap (λ (f : FailuresValue). f.count) fails
+input_fails (Err failure.BindFailed) before after fails = ap (λ (f : FailuresValue). f.count) fails
+input_fails (Err failure.PollFailed) before after fails = ap (λ (f : FailuresValue). f.count) fails
+input_fails (Err failure.NoAnswer) before after fails = ap (λ (f : FailuresValue). f.count) fails
+input_fails (Err failure.RulesChanged) before after fails = ap (λ (f : FailuresValue). f.count) fails
+
+-- the failures were those of another input
+pub input_fails_as : {A : Type 0} (result : Result A Failure) (read read' : ℕ) (before after : FailuresValue) → before.count ≡ read → read' ≡ after.count
+    → LinesFail result before after → InputFails result read read'
+input_fails_as result read read' before after from to fails =
+    subst (λ (n : ℕ). InputFails result read n) (sym to) (subst (λ (n : ℕ). InputFails result n after.count) from (input_fails result before after fails))
+
+-- the borrow stays the same
+pub lines_borrow : {A : Type 0} (result : Result A Failure) (before after : FailuresValue) → LinesFail result before after → after.borrow ≡ before.borrow
+lines_borrow (Ok done) before after fails = ap (λ (f : FailuresValue). f.borrow) fails
+lines_borrow (Err failure.ReadFailed) before after fails = ap (λ (f : FailuresValue). f.borrow) fails
+lines_borrow (Err failure.WriteFailed) before after fails = ap (λ (f : FailuresValue). f.borrow) fails
+lines_borrow (Err failure.OutOfMemory) before after fails = ap (λ (f : FailuresValue). f.borrow) fails
+lines_borrow (Err failure.SpawnFailed) before after fails = ap (λ (f : FailuresValue). f.borrow) fails
+lines_borrow (Err failure.BindFailed) before after fails = ap (λ (f : FailuresValue). f.borrow) fails
+lines_borrow (Err failure.PollFailed) before after fails = ap (λ (f : FailuresValue). f.borrow) fails
+lines_borrow (Err failure.NoAnswer) before after fails = ap (λ (f : FailuresValue). f.borrow) fails
+lines_borrow (Err failure.RulesChanged) before after fails = ap (λ (f : FailuresValue). f.borrow) fails
+
+-- no read was tried
+pub unread_fails : {A : Type 0} (result : Result A Failure) (read : ℕ) → IfErr result (λ fault. fault ≢ failure.ReadFailed) → InputFails result read read
+unread_fails (Ok done) read other = refl
+unread_fails (Err failure.ReadFailed) read other = absurd (other refl)
+unread_fails (Err failure.WriteFailed) read other = refl
+unread_fails (Err failure.OutOfMemory) read other = refl
+unread_fails (Err failure.SpawnFailed) read other = refl
+unread_fails (Err failure.BindFailed) read other = refl
+unread_fails (Err failure.PollFailed) read other = refl
+unread_fails (Err failure.NoAnswer) read other = refl
+unread_fails (Err failure.RulesChanged) read other = refl
+
+-- lines whose failures stay the same are not read
+pub words_unread : {A : Type 0} (result : Result A Failure) (before : FailuresValue) → LinesFail result before before → IfErr result (λ fault. fault ≢ failure.ReadFailed)
+words_unread (Ok done) before fails = tt
+words_unread (Err failure.ReadFailed) before fails = absurd (grows before.count (ap (λ (f : FailuresValue). f.count) fails))
+  where
+    grows : (n : ℕ) → n ≡ suc n → ⊥
+    grows n is = let same = is in omega arith
+words_unread (Err failure.WriteFailed) before fails = λ is. cc
+words_unread (Err failure.OutOfMemory) before fails = λ is. cc
+words_unread (Err failure.SpawnFailed) before fails = λ is. cc
+words_unread (Err failure.BindFailed) before fails = λ is. cc
+words_unread (Err failure.PollFailed) before fails = λ is. cc
+words_unread (Err failure.NoAnswer) before fails = λ is. cc
+words_unread (Err failure.RulesChanged) before fails = λ is. cc

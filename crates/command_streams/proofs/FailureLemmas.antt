@@ -42,6 +42,18 @@ read_cause (Err PollFailed) read read' written failed input = (input, refl)
 read_cause (Err NoAnswer) read read' written failed input = (input, refl)
 read_cause (Err RulesChanged) read read' written failed input = (input, refl)
 
+-- the failure of a call that may read and write
+pub both_causes : (A B : Type 0) (failure : Failure) (read read' : ℕ) (written written' : FailuresValue) → InputFails {A = A} (Err failure) read read'
+    → OutputFails {A = A} (Err failure) written written' → HasCause {A = B} (Err failure) read read' written written'
+both_causes A B ReadFailed read read' written written' input output = (input, output)
+both_causes A B WriteFailed read read' written written' input output = (input, output)
+both_causes A B OutOfMemory read read' written written' input output = (input, output)
+both_causes A B SpawnFailed read read' written written' input output = (input, output)
+both_causes A B BindFailed read read' written written' input output = (input, output)
+both_causes A B PollFailed read read' written written' input output = (input, output)
+both_causes A B NoAnswer read read' written written' input output = (input, output)
+both_causes A B RulesChanged read read' written written' input output = (input, output)
+
 -- ---- the borrow stays the same
 
 pub cause_borrow : {A : Type 0} (result : Result A Failure) (read read' : ℕ) (written written' : FailuresValue) → HasCause result read read' written written'

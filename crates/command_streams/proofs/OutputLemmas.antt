@@ -1,12 +1,13 @@
 -- Failures of an output that are passed on or reported.
-use Rattle.std.proofs.Common.{◌≡◌, ◌≢◌, Err, Ok, Result, ap, refl, subst, sym}
+use Rattle.std.proofs.Common.{◌≡◌, ◌≢◌, Err, Ok, Result, ap, refl, subst, sym, ℕ}
 use Rattle.std.specs.Prelude.{IfErr, IfOk, IsErrAnd, OnErr}
 use Rattle.command_line.specs.declared.ending.Failure.{Failure}
 use Rattle.command_line.specs.declared.ending.Failure.TheVariants.{BindFailed, NoAnswer, OutOfMemory, PollFailed, ReadFailed, RulesChanged, SpawnFailed, WriteFailed}
 use Rattle.command_line.specs.declared.ending.Status.{Status}
 use Rattle.command_line.specs.declared.ending.Status.TheVariants.{Done, Failed, Misused, Refused}
-use Rattle.command_streams.specs.Endings.{CountsFailure, EndsByCause}
-use Rattle.command_streams.specs.Failures.{FailuresValue, OutputFails}
+use Rattle.command_streams.specs.Endings.{CountsFailure, EndsByCause, EndsByOneCause}
+use Rattle.command_streams.specs.Failures.{FailuresValue, HasCause, OutputFails}
+use Rattle.command_streams.proofs.FailureLemmas.{cause_borrow}
 
 -- a failure that is not that of a write
 pub counts_none : (failure : Failure) (before after : FailuresValue) → failure ≢ WriteFailed → after ≡ before → CountsFailure failure before after
@@ -89,6 +90,20 @@ module _ (Reports : Failure → Type 0) (before after : FailuresValue) where
   ends_reported (Err failure) status is failed reports other fails =
       ends_in_failure status failure failed reports (counts_failure Status failure before after fails)
 
+  -- the same of a command that may read
+  pub ends_once : (status : Status) (failure : Failure) (read read' : ℕ) → status ≡ Failed → Reports failure
+      → HasCause {A = Status} (Err failure) read read' before after → EndsByOneCause Reports status read read' before after
+  ends_once status failure read read' is reports cause =
+      subst (λ (s : Status). EndsByOneCause Reports s read read' before after) (sym is) (failure, reports, cause)
+
+  pub ends_unread : (status : Status) (read : ℕ) → (status ≡ Failed → Reports WriteFailed) → EndsByCause (λ failure. failure ≡ WriteFailed) status before after
+      → EndsByOneCause Reports status read read before after
+  ends_unread Done read reports ends = (refl, ends)
+  ends_unread Refused read reports ends = (refl, ends)
+  ends_unread Misused read reports ends = (refl, ends)
+  ends_unread Failed read reports (failure, is, counts) =
+      (WriteFailed, reports refl, (refl, subst (λ (f : Failure). CountsFailure f before after) is counts))
+
 -- the same by another report
 pub ends_as : (Reports Reports' : Failure → Type 0) (before after : FailuresValue) (status : Status) → ((failure : Failure) → Reports failure → Reports' failure)
     → EndsByCause Reports status before after → EndsByCause Reports' status before after
@@ -115,3 +130,10 @@ ends_borrow Reports Done before after ends = ap (λ (f : FailuresValue). f.borro
 ends_borrow Reports Refused before after ends = ap (λ (f : FailuresValue). f.borrow) ends
 ends_borrow Reports Misused before after ends = ap (λ (f : FailuresValue). f.borrow) ends
 ends_borrow Reports Failed before after (failure, reports, counts) = counts_borrow failure before after counts
+
+pub once_borrow : (Reports : Failure → Type 0) (status : Status) (read read' : ℕ) (before after : FailuresValue)
+    → EndsByOneCause Reports status read read' before after → after.borrow ≡ before.borrow
+once_borrow Reports Done read read' before after ends = ap (λ (f : FailuresValue). f.borrow) ends.1
+once_borrow Reports Refused read read' before after ends = ap (λ (f : FailuresValue). f.borrow) ends.1
+once_borrow Reports Misused read read' before after ends = ap (λ (f : FailuresValue). f.borrow) ends.1
+once_borrow Reports Failed read read' before after (failure, reports, cause) = cause_borrow {A = Status} (Err failure) read read' before after cause

@@ -6,7 +6,7 @@ use Rattle.control.specs.Streams.{InputValue, told_after}
 use Rattle.command_line.specs.declared.ending.Failure.{Failure}
 use Rattle.command_line.specs.declared.ending.Failure.TheVariants.{ReadFailed, WriteFailed}
 
--- the failures of an output: how many, and the name of the borrow by which it writes, which no call changes
+-- the failures of a device: how many, and the name of the borrow by which it is used, which no call changes
 pub record FailuresValue : Type 0 where
   pub count : ℕ
   pub borrow : GName

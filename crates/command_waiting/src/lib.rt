@@ -17,7 +17,7 @@ use command_line::{Status, Waiting};
 use command_operating::{
     Draining, Loading, Watching, run_drain, run_load, run_metrics, run_rules, run_tell, run_top,
 };
-use command_streams::{CountedWrite, CountedWriter};
+use command_streams::{CountedWrite, CountedWriter, FromRead, Input};
 use logging::ServeLog;
 pub use serve_udp::{serve, serve_direct, serve_with};
 use serving::run_serve;
@@ -58,16 +58,26 @@ pub fn run_waiting<
         → EndsInWaitingFailure terminal (waiting_of command.entry) (I.remaining input) (W.contents out.old) (W.contents out.new)
         (E.contents errs.old) (E.contents errs.new) }
 {
+    let mut read = FromRead::new(input);
     let mut results = CountedWriter::new(out);
-    let status = run_over(rt, alloc, command, input, log, terminal, &mut results, errs);
+    let status = run_over(
+        rt,
+        alloc,
+        command,
+        &mut read,
+        log,
+        terminal,
+        &mut results,
+        errs,
+    );
     let _ = results.into_inner();
     status
 }
 
-// Runs a command that may wait over an output whose failures are counted.
+// Runs a command that may wait over an input and an output whose failures are counted.
 fn run_over<
     R: Threads + Wait + Net + Clock + Files + Sync,
-    I: Read + Drop,
+    I: Input,
     W: CountedWrite,
     E: Write,
     L: Write + Drop,
@@ -75,20 +85,20 @@ fn run_over<
     rt: &R,
     alloc: Global,
     command: Waiting<'_>,
-    input: I,
+    input: &mut I,
     log: L,
     terminal: bool,
     out: &mut W,
     errs: &mut E,
 ) -> Status
-    ensures done { result ≡ Status.Done → WritesFor terminal (waiting_of command.entry) (I.remaining input) (W.contents out.old) (W.contents out.new)
+    ensures done { result ≡ Status.Done → WritesFor terminal (waiting_of command.entry) (I.state input.old).coming (W.contents out.old) (W.contents out.new)
         (E.contents errs.old) (E.contents errs.new) }
-    ensures refused { result ≡ Status.Refused → WritesRefusal (waiting_of command.entry) (I.remaining input) (W.contents out.old) (W.contents out.new)
+    ensures refused { result ≡ Status.Refused → WritesRefusal (waiting_of command.entry) (I.state input.old).coming (W.contents out.old) (W.contents out.new)
         (E.contents errs.old) (E.contents errs.new) }
     ensures no_errors { (result ≡ Status.Done) ⊎ ((result ≡ Status.Refused) × ShowsNoRefusal (waiting_of command.entry)) → errs.new ≡ errs.old }
     ensures never_misused { result ≡ Status.Misused → ⊥ }
     ensures failed { result ≡ Status.Failed
-        → EndsInWaitingFailure terminal (waiting_of command.entry) (I.remaining input) (W.contents out.old) (W.contents out.new)
+        → EndsInWaitingFailure terminal (waiting_of command.entry) (I.state input.old).coming (W.contents out.old) (W.contents out.new)
         (E.contents errs.old) (E.contents errs.new) }
 {
     match command {

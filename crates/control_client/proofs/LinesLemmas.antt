@@ -1,16 +1,16 @@
--- The first line of a text, the lines of a script, and requests that were given one after the other.
-use Rattle.std.proofs.Common.{◌≡◌, ◌∙◌, ◌==◌, ◌++◌, ◌∷◌, Bool, List, None, Option, Some, [], ap, eqb-true, false, length, nat_eq, refl, subst, suc, sym, take, true, ℕ, ◌-◌, ◌+◌, arith, length-append}
-use Rattle.std.proofs.lemmas.Bool.{both_ways}
-use Rattle.std.proofs.lemmas.Bool.Decides.{Decides-eqb}
-use Rattle.std.proofs.lemmas.Slice.Eq.{ends_is}
-use Rattle.std.specs.List.{ends_with}
-use Rattle.std.specs.Prelude.{IfSome}
-use Rattle.std.specs.Io.BufRead.{DropsThrough, drop_through, take_through}
-use Rattle.std.specs.Io.KnownBytes.{IsAtEnd}
+-- A line that is read, the lines of a script, and requests that were given one after the other.
+use Rattle.std.proofs.Common.{◌≡◌, ◌∙◌, ◌==◌, ◌++◌, ◌∷◌, Bool, List, None, Option, Some, [], ap, append_assoc, append-nil, arith, drop, eqb-true, false, length, not, refl, subst, suc, sym, take, true, ◌+◌, ◌-◌, ℕ}
+use Rattle.std.proofs.Math.Seq.{drop-append-add}
+use Rattle.std.proofs.lemmas.List.{drop-drop, length-drop, take_all}
+use Rattle.std.specs.Io.KnownBytes.{Consumes, IsAtEnd}
+use Rattle.ipv4_fields.specs.Cut.{Lacks}
+use Rattle.ipv4_fields.proofs.TextLemmas.{lacks-append}
 use Rattle.control_line.specs.Answer.{NumberedLine}
-use Rattle.control_line.specs.Rules.{grow_first, is_skipped, lines_in, rules_from, without_return}
-use Rattle.control_client.specs.Lines.{AreAll, AreFirst, AreNone, AreRequests, LosesLine, LosesRequest, Request, lines_known, next_request, no_request, script_after}
-use Rattle.control_client.specs.body.LineEnd.{without_end}
+use Rattle.control_line.specs.Block.{EndsLine}
+use Rattle.control_line.specs.Rules.{is_skipped, lines_in, rules_from, without_return}
+use Rattle.control_line.proofs.RulesLemmas.{lines_in-cut, lines_in-last}
+use Rattle.control_client.specs.Lines.{AreAll, AreFirst, AreNone, AreRequests, GivesNext, LosesLine, LosesRequest, Request, lines_known, next_request, no_request, script_after}
+use Rattle.control_client.specs.body.Unread.{TakesLine, left_of}
 
 -- these requests were given
 abbrev pub Gave : Option (List NumberedLine) → Option (List NumberedLine) → List Request → Type 0
@@ -40,71 +40,81 @@ gave_first None after requests one = tt
 gave_first (Some a) None requests one = absurd one
 gave_first (Some a) (Some b) requests one = (b, one)
 
--- ---- the first line of a text
+-- ---- a line that is read
 
-abbrev HasFirstLine : ℕ → List ℕ → Type 0
-HasFirstLine byte rest = lines_in (byte ∷ rest) ≡ without_end (take_through 10 (byte ∷ rest)) ∷ lines_in (drop_through 10 (byte ∷ rest))
+-- behind the first line of the bytes that are left, if that ends there
+pub behind_line : (bytes first rest : List ℕ) (taken : ℕ) → take (length bytes - taken) (drop taken bytes) ≡ first ++ rest → EndsLine rest
+    → (length rest == 0) ≡ false → drop taken bytes ≡ first ++ 10 ∷ drop (taken + (length first + 1)) bytes
+behind_line bytes first [] taken cut ends some = absurd (let never : true ≡ false = some in cc)
+behind_line bytes first (x ∷ more) taken cut ends some =
+    let whole : drop taken bytes ≡ first ++ x ∷ more = sym (take_all (length bytes - taken) (drop taken bytes) (let same = length-drop taken bytes in omega arith)) ∙ cut in
+    whole ∙ ap (λ (b : ℕ). first ++ b ∷ more) ends
+    ∙ ap (λ (l : List ℕ). first ++ 10 ∷ l) (sym (sym (drop-drop (length first + 1) taken bytes)
+    ∙ ap (drop (length first + 1)) whole ∙ drop-append-add first (x ∷ more) 1))
 
--- a byte in front of a line leaves the line's end
-end_behind : (byte next : ℕ) (more : List ℕ) (ends : Bool) → (next == 10) ≡ ends
-    → without_end (byte ∷ take_through 10 (next ∷ more)) ≡ byte ∷ without_end (take_through 10 (next ∷ more))
-end_behind byte next more true is = simp is refl
-end_behind byte next more false is = simp is refl
+pub left_of-nil : (coming : Option (List ℕ)) → left_of [] coming ≡ coming
+left_of-nil None = refl
+left_of-nil (Some text) = refl
 
-ends_here : (byte : ℕ) (rest : List ℕ) → (byte == 10) ≡ true → HasFirstLine byte rest
-ends_here byte rest is = simp is refl
+-- the bytes that were read, and those that the input still has, are the same after a read
+pub left_filled : (coming coming' : Option (List ℕ)) (unread : List ℕ) (start : Option (List ℕ)) (line : List ℕ) → Consumes coming coming' unread
+    → Consumes start (left_of [] coming) line → Consumes start (left_of unread coming') line
+left_filled coming coming' unread None line gave read = tt
+left_filled None coming' unread (Some text) line gave read = absurd read
+left_filled (Some more) None unread (Some text) line gave read = absurd gave
+left_filled (Some more) (Some later) unread (Some text) line gave read = read ∙ ap (λ (rest : List ℕ). line ++ rest) gave
 
-last_byte : (byte : ℕ) (ends : Bool) → (byte == 10) ≡ ends → HasFirstLine byte []
-last_byte byte true is = simp is refl
-last_byte byte false is = simp is refl
+-- bytes were taken of those that were read
+pub left_taken : (coming start : Option (List ℕ)) (unread unread' line part : List ℕ) → unread ≡ part ++ unread' → Consumes start (left_of unread coming) line
+    → Consumes start (left_of unread' coming) (line ++ part)
+left_taken coming None unread unread' line part is read = tt
+left_taken None (Some text) unread unread' line part is read = absurd read
+left_taken (Some more) (Some text) unread unread' line part is read =
+    read ∙ ap (λ (u : List ℕ). line ++ (u ++ more)) is ∙ ap (λ (rest : List ℕ). line ++ rest) (append_assoc part unread' more) ∙ sym (append_assoc line part (unread' ++ more))
 
-goes_on : (byte next : ℕ) (more : List ℕ) (ends : Bool) → (byte == 10) ≡ ends → HasFirstLine next more → HasFirstLine byte (next ∷ more)
-goes_on byte next more true is before = ends_here byte (next ∷ more) is
-goes_on byte next more false is before =
-    simp is (ap (λ (lines : List (List ℕ)). grow_first byte lines) before
-    ∙ ap (λ (line : List ℕ). line ∷ lines_in (drop_through 10 (next ∷ more))) (sym (end_behind byte next more (next == 10) refl)))
+-- a line ended at its LF
+pub line_ended : (coming start : Option (List ℕ)) (unread unread' line part : List ℕ) → unread ≡ part ++ 10 ∷ unread' → Lacks 10 line → Lacks 10 part
+    → Consumes start (left_of unread coming) line → LosesLine (lines_known start) (lines_known (left_of unread' coming)) (line ++ part)
+line_ended coming None unread unread' line part is lacks lacks' read = tt
+line_ended None (Some text) unread unread' line part is lacks lacks' read = absurd read
+line_ended (Some more) (Some text) unread unread' line part is lacks lacks' read =
+    ap lines_in (read ∙ ap (λ (u : List ℕ). line ++ (u ++ more)) is ∙ ap (λ (rest : List ℕ). line ++ rest) (append_assoc part (10 ∷ unread') more)
+    ∙ sym (append_assoc line part (10 ∷ (unread' ++ more))))
+    ∙ lines_in-cut (line ++ part) (unread' ++ more) (lacks-append 10 line part lacks lacks')
 
-pub first_line : (byte : ℕ) (rest : List ℕ) → HasFirstLine byte rest
-first_line byte [] = last_byte byte (byte == 10) refl
-first_line byte (next ∷ more) = goes_on byte next more (byte == 10) refl (first_line next more)
+by_test : (empty : Bool) → false ≡ not empty → empty ≡ true
+by_test true is = refl
+by_test false is = absurd (let never : false ≡ true = is in cc)
 
--- ---- the end of a line
+has_bytes : (x : ℕ) (line : List ℕ) → (length (x ∷ line) == 0) ≡ true → ⊥
+has_bytes x line is = let none = eqb-true (length (x ∷ line)) 0 is in omega arith
 
-pub end_is_cut : (front : List ℕ) → without_end (front ++ 10 ∷ []) ≡ front
-end_is_cut [] = refl
-end_is_cut (byte ∷ []) = refl
-end_is_cut (byte ∷ next ∷ rest) = ap (λ (line : List ℕ). byte ∷ line) (end_is_cut (next ∷ rest))
+-- the input ended behind a line without LF, or behind an LF
+pub input_ended : (coming start : Option (List ℕ)) (line : List ℕ) (some : Bool) → IsAtEnd coming → Lacks 10 line → Consumes start (left_of [] coming) line
+    → some ≡ not (length line == 0) → GivesNext (lines_known start) (lines_known (left_of [] coming)) line some
+input_ended coming None line true at_end lacks read is = tt
+input_ended coming None line false at_end lacks read is = tt
+input_ended None (Some text) line true at_end lacks read is = absurd read
+input_ended None (Some text) line false at_end lacks read is = absurd read
+input_ended (Some more) (Some text) [] true at_end lacks read is = absurd (let never : true ≡ false = is in cc)
+input_ended (Some more) (Some text) [] false at_end lacks read is = (ap lines_in (read ∙ at_end), ap lines_in at_end)
+input_ended (Some more) (Some text) (x ∷ line) false at_end lacks read is = absurd (has_bytes x line (by_test (length (x ∷ line) == 0) is))
+input_ended (Some more) (Some text) (x ∷ line) true at_end lacks read is =
+    ap lines_in (read ∙ ap (λ (rest : List ℕ). (x ∷ line) ++ rest) at_end ∙ append-nil (x ∷ line)) ∙ lines_in-last x line lacks
+    ∙ ap (λ (rest : List ℕ). (x ∷ line) ∷ lines_in rest) (sym at_end)
 
-no_end : (byte : ℕ) (ends : Bool) → (byte == 10) ≡ ends → ((front : List ℕ) → byte ∷ [] ≡ front ++ 10 ∷ [] → ⊥) → without_end (byte ∷ []) ≡ byte ∷ []
-no_end byte true is none = absurd (none [] (ap (λ (b : ℕ). b ∷ []) (eqb-true byte 10 is)))
-no_end byte false is none = simp is refl
-
-pub end_is_kept : (line : List ℕ) → ((front : List ℕ) → line ≡ front ++ 10 ∷ [] → ⊥) → without_end line ≡ line
-end_is_kept [] none = refl
-end_is_kept (byte ∷ []) none = no_end byte (byte == 10) refl none
-end_is_kept (byte ∷ next ∷ rest) none =
-    ap (λ (line : List ℕ). byte ∷ line) (end_is_kept (next ∷ rest) (λ front is. none (byte ∷ front) (ap (λ (line : List ℕ). byte ∷ line) is)))
-
--- ---- a line that was read
-
--- some bytes were read, up to the first LF or to the end
-pub reads_line : (before after : Option (List ℕ)) (size : ℕ) (held line : List ℕ) → held ≡ [] → IfSome before (λ text. line ≡ held ++ take_through 10 text)
-    → DropsThrough before after 10 → length line ≡ length held + size → (size ≡ 0 → ⊥) → LosesLine (lines_known before) (lines_known after) (without_end line)
-reads_line None after size held line none bytes rest same some = tt
-reads_line (Some []) after size held line none bytes rest same some =
-    let whole = ap length bytes in let joined = length-append held [] in absurd (some (omega (arith, whole, joined, same)))
-reads_line (Some (byte ∷ text)) after size held line none bytes rest same some =
-    let whole : line ≡ take_through 10 (byte ∷ text) = bytes ∙ ap (λ (h : List ℕ). h ++ take_through 10 (byte ∷ text)) none in
-    subst (λ (l : List ℕ). LosesLine (lines_known (Some (byte ∷ text))) (lines_known after) (without_end l)) (sym whole)
-    (subst (λ (o : Option (List ℕ)). LosesLine (lines_known (Some (byte ∷ text))) (lines_known o) (without_end (take_through 10 (byte ∷ text)))) (sym rest) (first_line byte text))
-
--- no byte was read
-pub reads_none : (before after : Option (List ℕ)) → IsAtEnd before → DropsThrough before after 10 → AreNone (lines_known before) (lines_known after)
-reads_none None after at_end rest = tt
-reads_none (Some text) None at_end rest = absurd (cc)
-reads_none (Some text) (Some more) at_end rest =
-    let left : more ≡ drop_through 10 text = cc in
-    (ap lines_in at_end, ap lines_in (left ∙ ap (drop_through 10) at_end))
+-- the bytes that were read have no LF, and there are no others
+pub input_over : (coming coming' start : Option (List ℕ)) (unread unread' filled line line' : List ℕ) (empty : Bool) → Lacks 10 line
+    → Consumes start (left_of unread coming) line → TakesLine unread unread' line line' false → Consumes coming coming' filled → (filled ≡ []) × IsAtEnd coming'
+    → empty ≡ (length line' == 0) → GivesNext (lines_known start) (lines_known (left_of filled coming')) line' (not empty)
+input_over coming coming' start unread unread' filled line line' empty lacks read took gave over is =
+    let all : Consumes start (left_of filled coming') (line ++ unread) =
+    left_filled coming coming' filled start (line ++ unread) gave (left_taken coming start unread [] line unread (sym (append-nil unread)) read) in
+    subst (λ (f : List ℕ). GivesNext (lines_known start) (lines_known (left_of f coming')) line' (not empty)) (sym over.0)
+    (subst (λ (l : List ℕ). GivesNext (lines_known start) (lines_known (left_of [] coming')) l (not empty)) (sym took.2)
+    (input_ended coming' start (line ++ unread) (not empty) over.1 (lacks-append 10 line unread lacks took.0)
+    (subst (λ (f : List ℕ). Consumes start (left_of f coming') (line ++ unread)) over.0 all)
+    (ap not (is ∙ ap (λ (l : List ℕ). length l == 0) took.2))))
 
 -- ---- the lines of a script
 
@@ -178,17 +188,3 @@ pub take-without_return : (line : List ℕ) → take (length (without_return lin
 take-without_return [] = refl
 take-without_return (byte ∷ []) = front_of byte (byte == 13) refl
 take-without_return (byte ∷ next ∷ rest) = ap (λ (line : List ℕ). byte ∷ line) (take-without_return (next ∷ rest))
-
--- ---- a line's end, by the test for it
-
-module _ (line shown needle : List ℕ) (r : Bool) (is : shown ≡ line) (ten : needle ≡ 10 ∷ []) (tested : r ≡ ends_with nat_eq shown needle) where
-  tested_here : r ≡ ends_with nat_eq line (10 ∷ [])
-  tested_here = subst (λ (n : List ℕ). r ≡ ends_with nat_eq line n) ten (subst (λ (s : List ℕ). r ≡ ends_with nat_eq s needle) is tested)
-
-  pub ends_cut : (count : ℕ) → count ≡ length line → r ≡ true → take (count - 1) line ≡ without_end line
-  ends_cut count same is_end =
-      let whole = (ends_is Decides-eqb line (10 ∷ []) r tested_here).0 is_end in
-      ap (λ (n : ℕ). take (n - 1) line) same ∙ sym (ap without_end whole ∙ end_is_cut (take (length line - 1) line))
-
-  pub ends_kept : r ≡ false → line ≡ without_end line
-  ends_kept not_end = sym (end_is_kept line (λ front whole. both_ways r not_end ((ends_is Decides-eqb line (10 ∷ []) r tested_here).1 front whole)))

@@ -1,10 +1,14 @@
 -- The lines that are given, and the requests that they are sent as (docs/COMMANDS.md, "tell").
-use Rattle.std.specs.Prelude.{◌≡◌, ◌≢◌, ◌<◌, ◌++◌, ◌∷◌, Bool, List, None, Option, Some, [], codes, decimal, false, length, map, suc, true, ℕ}
+use Rattle.std.specs.Prelude.{◌≡◌, ◌≢◌, ◌<◌, ◌++◌, ◌∷◌, Bool, List, None, Option, Some, [], codes, decimal, false, length, map, true, ℕ}
+use Rattle.std.specs.Prelude.{Err, Ok, Result, suc}
 use Rattle.std.specs.Option.{option_map}
 use Rattle.control_line.specs.Answer.{NumberedLine}
 use Rattle.control_line.specs.Block.{IsHead, after_line_feeds, head_text}
 use Rattle.control_line.specs.Rules.{lines_in, rules_from, rules_in}
 use Rattle.control_line.specs.declared.head.Head.{Head}
+use Rattle.command_line.specs.declared.ending.Failure.{Failure}
+use Rattle.command_line.specs.declared.ending.Failure.TheVariants.{ReadFailed}
+use Rattle.command_streams.specs.Failures.{FailuresValue}
 
 -- the lines of a text that is known, or of none
 abbrev pub lines_known : Option (List ℕ) → Option (List (List ℕ))
@@ -18,6 +22,17 @@ script_known text = option_map rules_in text
 -- the same of what follows so many lines
 abbrev pub script_after : ℕ → Option (List ℕ) → Option (List NumberedLine)
 script_after read text = option_map (λ known. rules_from (suc read) (lines_in known)) text
+
+-- the lines of an input: those to come, if they are known, how often a read of the input failed, and the name of its borrow
+pub record InputLinesValue : Type 0 where
+  pub coming : Option (List NumberedLine)
+  pub failures : FailuresValue
+
+-- one read failed if the failure is that of a read, and else none
+abbrev pub LinesFail : {A : Type 0} → Result A Failure → FailuresValue → FailuresValue → Type 0
+LinesFail (Ok answer) before after = after ≡ before
+LinesFail (Err ReadFailed) before after = after ≡ record { count = suc before.count; borrow = before.borrow }
+LinesFail (Err failure) before after = after ≡ before
 
 abbrev pub texts_of : List NumberedLine → List (List ℕ)
 texts_of lines = map (λ (line : NumberedLine). line.text) lines

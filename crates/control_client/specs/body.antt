@@ -1,4 +1,4 @@
 pub mod Asking
-pub mod LineEnd
+pub mod Unread
 pub mod Collecting
 pub mod Feeds

@@ -19,8 +19,8 @@ const TOO_LONG: &[u8] = b"refused C2";
 
 const NO_REQUEST: &[u8] = b"refused C1";
 
-// Cuts a text before its first LF.
-fn cut_line(text: &[u8]) -> (&[u8], &[u8])
+/// Cuts a text before its first LF.
+pub(crate) fn cut_line(text: &[u8]) -> (&[u8], &[u8])
     ensures { HasFirstLine text.now result.0.now result.1.now }
 {
     let end = memchr(b'\n', text).unwrap_or(text.len());

@@ -7,6 +7,7 @@
 
 ghost use Rattle.std.specs.Prelude.{◌≡◌, IfErr, IfOk, None, OnErr};
 ghost use Rattle.command_streams.specs.Failures.{OutputFails};
+ghost use Rattle.control_client.specs.Lines.{LinesFail};
 ghost use Rattle.control_client.specs.Refused.{ShownOn};
 ghost use Rattle.control_client.specs.Wire.{peer_of};
 ghost use Rattle.control_client.specs.Tell.{ChangeEndsBy, ChangeStopsOverSocket, StopsOverSocket, TellsAll, TellsChange, TellsFirst};
@@ -24,12 +25,14 @@ mod stream_lines;
 mod trouble;
 mod udp_device;
 mod unix_device;
+mod unread;
 
 use asking::exchange;
 pub use asking::{FOREIGN_LIMIT, LONGEST_DATAGRAM, ask};
 pub use carrying::{LONGEST_LINE, unsent_reply};
 use command_line::Failure;
 use command_streams::CountedWrite;
+pub use command_streams::FromRead;
 pub use device::{Came, Peer, Wire, WireFailed};
 pub use given_lines::{InputLines, Lines, WordLines};
 pub use printing::is_refusal;
@@ -76,6 +79,7 @@ pub fn tell<L: Lines, D: Wire, W: CountedWrite, E: Write, X: Explains>(
     ensures first_told { IfErr result (λ fault. TellsFirst (ShownOn E.contents X.shows) fault switch (L.coming lines.old)
         (D.log wire.old) (D.log wire.new) (W.contents out.old) (W.contents out.new) errs.old errs.new) }
     ensures device_failed { OutputFails result (W.failures out.old) (W.failures out.new) }
+    ensures input_failed { LinesFail result (L.failures lines.old) (L.failures lines.new) }
 {
     let mut room = vec![in alloc; 0; LONGEST_DATAGRAM]?;
     let mut line = Vec::new(alloc);
@@ -95,7 +99,7 @@ pub fn tell<L: Lines, D: Wire, W: CountedWrite, E: Write, X: Explains>(
             refused = true;
         }
     }
-    Err(Failure::ReadFailed)
+    Err(Failure::OutOfMemory)
 }
 
 /// Sends each request over its own socket, as `tell` does.
@@ -113,6 +117,7 @@ pub fn tell_over_socket<R: Clock + Net, L: Lines, W: CountedWrite, E: Write, X: 
     ensures first_told { IfErr result (λ fault. StopsOverSocket (ShownOn E.contents X.shows) fault (peer_of reach.entry.address) (L.coming lines.old)
         (W.contents out.old) (W.contents out.new) errs.old errs.new) }
     ensures device_failed { OutputFails result (W.failures out.old) (W.failures out.new) }
+    ensures input_failed { LinesFail result (L.failures lines.old) (L.failures lines.new) }
 {
     let mut wire = SocketWire::open(rt, alloc, reach)?;
     tell(alloc, lines, &mut wire, reach.peer(), out, errs, explains)
@@ -137,6 +142,7 @@ pub fn tell_change<L: Lines, D: Wire, W: CountedWrite, E: Write, X: Explains>(
         ChangeEndsBy fault switch (L.coming lines.old) (D.log wire.old) (D.log wire.new) (W.contents out.old) (W.contents out.new)) }
     ensures unshown { OnErr result (errs.new ≡ errs.old) }
     ensures device_failed { OutputFails result (W.failures out.old) (W.failures out.new) }
+    ensures input_failed { LinesFail result (L.failures lines.old) (L.failures lines.new) }
 {
     let mut numbers = Vec::new(alloc);
     let request = numbered_block_of(alloc, CHANGE, lines, &mut numbers)?;
@@ -165,6 +171,7 @@ pub fn tell_change_over_socket<R: Clock + Net, L: Lines, W: CountedWrite, E: Wri
         ChangeStopsOverSocket fault (peer_of reach.entry.address) (L.coming lines.old) (W.contents out.old) (W.contents out.new)) }
     ensures unshown { OnErr result (errs.new ≡ errs.old) }
     ensures device_failed { OutputFails result (W.failures out.old) (W.failures out.new) }
+    ensures input_failed { LinesFail result (L.failures lines.old) (L.failures lines.new) }
 {
     let mut wire = SocketWire::open(rt, alloc, reach)?;
     tell_change(alloc, lines, &mut wire, reach.peer(), out, errs, explains)

@@ -1,7 +1,7 @@
 //! Requests made of lines: a line, a block with its lines, or all lines as one change (docs/COMMANDS.md, "tell").
 
 ghost use Rattle.std.specs.Prelude.{◌≡◌, ◌⊎◌, IfErr, IfOk, OnOk};
-ghost use Rattle.control_client.specs.Lines.{AreNumbersOf, GivesRequest, IsBlockOf};
+ghost use Rattle.control_client.specs.Lines.{AreNumbersOf, GivesRequest, IsBlockOf, LinesFail};
 ghost use Rattle.control_client.specs.body.Collecting.{AddsAll, AddsLine, AddsUpTo};
 
 use crate::given_lines::Lines;
@@ -19,6 +19,7 @@ fn add_line<L: Lines>(
     ensures added { IfOk result (AddsLine (L.coming lines.old) (L.coming lines.new)
         (record { text = request.old.items; numbers = numbers.old.items }) (record { text = request.new.items; numbers = numbers.new.items })) }
     ensures faults { IfErr result (λ fault. (fault ≡ Failure.ReadFailed) ⊎ (fault ≡ Failure.OutOfMemory)) }
+    ensures device_failed { LinesFail result (L.failures lines.old) (L.failures lines.new) }
 {
     let Some(number) = lines.next(line)? else {
         return Ok(false);
@@ -42,6 +43,7 @@ fn add_lines<L: Lines>(
     ensures added { OnOk result (AddsUpTo count (L.coming lines.old) (L.coming lines.new)
         (record { text = request.old.items; numbers = numbers.old.items }) (record { text = request.new.items; numbers = numbers.new.items })) }
     ensures faults { IfErr result (λ fault. (fault ≡ Failure.ReadFailed) ⊎ (fault ≡ Failure.OutOfMemory)) }
+    ensures device_failed { LinesFail result (L.failures lines.old) (L.failures lines.new) }
 {
     for _line in 0..count {
         if !add_line(lines, line, request, numbers)? {
@@ -62,6 +64,7 @@ pub(crate) fn next_request<L: Lines>(
 ) -> Result<Option<u64>, Failure>
     ensures next { IfOk result (GivesRequest (L.coming lines.old) (L.coming lines.new) numbers.new.items request.new.items) }
     ensures faults { IfErr result (λ fault. (fault ≡ Failure.ReadFailed) ⊎ (fault ≡ Failure.OutOfMemory)) }
+    ensures device_failed { LinesFail result (L.failures lines.old) (L.failures lines.new) }
 {
     numbers.clear();
     let Some(number) = lines.next(request)? else {
@@ -86,19 +89,21 @@ fn add_all<L: Lines>(
     ensures added { IfOk result (λ count. AddsAll count (L.coming lines.old)
         (record { text = text.old.items; numbers = numbers.old.items }) (record { text = text.new.items; numbers = numbers.new.items })) }
     ensures faults { IfErr result (λ fault. (fault ≡ Failure.ReadFailed) ⊎ (fault ≡ Failure.OutOfMemory)) }
+    ensures device_failed { LinesFail result (L.failures lines.old) (L.failures lines.new) }
 {
     for count in 0..u64::MAX {
         if !add_line(lines, line, text, numbers)? {
             return Ok(count);
         }
     }
-    Err(Failure::ReadFailed)
+    Err(Failure::OutOfMemory)
 }
 
 /// Makes a block of all lines: its first line up to their number, then how many they are, and the lines, each after an LF.
 pub fn block_of<L: Lines>(alloc: Global, front: &[u8], lines: &mut L) -> Result<Vec<u8>, Failure>
     ensures block { IfOk result (λ request. IsBlockOf front.now (L.coming lines.old) request.items) }
     ensures faults { IfErr result (λ fault. (fault ≡ Failure.ReadFailed) ⊎ (fault ≡ Failure.OutOfMemory)) }
+    ensures device_failed { LinesFail result (L.failures lines.old) (L.failures lines.new) }
 {
     numbered_block_of(alloc, front, lines, &mut Vec::new(alloc))
 }
@@ -113,6 +118,7 @@ pub(crate) fn numbered_block_of<L: Lines>(
     ensures block { IfOk result (λ request. IsBlockOf front.now (L.coming lines.old) request.items) }
     ensures numbers { OnOk result (AreNumbersOf (L.coming lines.old) numbers.new.items) }
     ensures faults { IfErr result (λ fault. (fault ≡ Failure.ReadFailed) ⊎ (fault ≡ Failure.OutOfMemory)) }
+    ensures device_failed { LinesFail result (L.failures lines.old) (L.failures lines.new) }
 {
     numbers.clear();
     let mut line = Vec::new(alloc);

@@ -13,7 +13,7 @@ use crate::drain_refusal::DrainRefusal;
 use crate::loading::{Attempt, Loaded, pause, read_reply, read_running};
 use crate::planning::{Plan, planned};
 use crate::reading::AGAIN;
-use control_client::{InputLines, Wire, block_of};
+use control_client::{FromRead, InputLines, Wire, block_of};
 use ipv4_fields::Endpoint;
 use std::alloc::Global;
 use std::time::Clock;
@@ -44,7 +44,11 @@ fn request_for(alloc: Global, version: u64, lines: &[u8]) -> Result<Vec<u8>, Ask
     ensures { IfOk result (λ request. (commands : List (CommandValue (List ℕ))) → lines.now ≡ changes_text commands → IsDrainRequest version commands request.items) }
 {
     let front = format!(in alloc; "at {version} all ")?;
-    match block_of(alloc, front.as_bytes(), &mut InputLines::new(lines)) {
+    match block_of(
+        alloc,
+        front.as_bytes(),
+        &mut InputLines::new(alloc, &mut FromRead::new(lines)),
+    ) {
         Ok(request) => Ok(request),
         Err(failure) => Err(AskFailure::of(failure)),
     }

@@ -13,7 +13,7 @@ use crate::client::Client;
 use crate::reading::{AGAIN, read_rules};
 use crate::replies::read_published;
 use config_diff::diff;
-use control_client::{InputLines, Wire, block_of, is_refusal};
+use control_client::{FromRead, InputLines, Wire, block_of, is_refusal};
 use control_line::{RulesFault, rules};
 use member_group::Config;
 use std::alloc::{AllocError, Global};
@@ -106,7 +106,11 @@ fn request_for(alloc: Global, version: u64, file: &[u8]) -> Result<Vec<u8>, AskF
     ensures { IfOk result (λ request. IsRequestFor file.now version request.items) }
 {
     let front = format!(in alloc; "at {version} anew ")?;
-    match block_of(alloc, front.as_bytes(), &mut InputLines::new(file)) {
+    match block_of(
+        alloc,
+        front.as_bytes(),
+        &mut InputLines::new(alloc, &mut FromRead::new(file)),
+    ) {
         Ok(request) => Ok(request),
         Err(failure) => Err(AskFailure::of(failure)),
     }

@@ -1,7 +1,10 @@
 use Rattle.control_client.specs.Refused.{ShownOn}
 use Rattle.control_client.proofs.TellLemmas.{change_not_made, change_of, change_stopped_in, change_told}
-use Rattle.control_client.proofs.ResultLemmas.{if_err}
-use Rattle.std.proofs.Common.{inr, refl}
+use Rattle.control_client.proofs.ResultLemmas.{if_err, lines_alike, lines_unread}
+use Rattle.std.proofs.Common.{Bool, Err, Result, inr, refl, ◌≡◌}
+use Rattle.std.specs.Prelude.{IsErrAnd}
+use Rattle.command_streams.specs.Failures.{FailuresValue}
+use Rattle.control_client.specs.Lines.{LinesFail}
 use Rattle.command_line.specs.declared.ending.Failure.{Failure}
 use Rattle.command_line.specs.declared.ending.Failure.TheVariants.{OutOfMemory}
 use Rattle.control_client.specs.Tell.{ChangeEndsBy}
@@ -35,3 +38,18 @@ returns-clause-change_ended g c =
     (g.W.CountedWrite.contents c.args.out.now) (g.W.CountedWrite.contents c.exchange.new.out) c.args.errs.now c.exchange.new.errs
     (change_of (g.L.Lines.coming c.args.lines.now) _ c.deref.result.now _ c.as_slice.result.now c.deref.ensures.value c.as_slice.ensures.value
     c.in_ok-request.ensures.numbers c.in_ok-request.ensures.block) c.exchange.ensures.stopped
+
+-- a call read, and its fault is passed on
+passed_on : {A : Type 0} (given : Result A Failure) (result : Result Bool Failure) (fault : Failure) (before after : FailuresValue) → IsErrAnd result (λ told. told ≡ fault)
+    → LinesFail {A = A} (Err fault) before after → LinesFail result before after
+passed_on {A = A} given result fault before after told fails = lines_alike A result fault before before after told refl fails
+
+pub returns-in_err-request-clause-input_failed : goal.returns-in_err-request-clause-input_failed
+returns-in_err-request-clause-input_failed g c =
+    passed_on c.numbered_block_of.result c.from_residual.result c.in_err-request.field-0.0 (g.L.Lines.failures c.args.lines.now)
+    (g.L.Lines.failures c.numbered_block_of.new.lines) c.from_residual.ensures.1 c.in_err-request.ensures.device_failed
+
+pub returns-clause-input_failed : goal.returns-clause-input_failed
+returns-clause-input_failed g c =
+    lines_unread c.exchange.result c.args.switch _ _ _ _ _ (g.L.Lines.failures c.args.lines.now) (g.L.Lines.failures c.numbered_block_of.new.lines)
+    c.exchange.ensures.stopped c.in_ok-request.ensures.device_failed

@@ -4,13 +4,11 @@ ghost use Rattle.std.specs.Prelude.{◌≤◌, IfSome, length};
 
 use command_line::Failure;
 use command_streams::CountedWriter;
-use control_client::{
-    Came, Explains, InputLines, Lines, Peer, Places, Wire, WireFailed, tell, tell_change,
-};
+use control_client::{Came, Explains, Lines, Peer, Places, Wire, WireFailed, tell, tell_change};
 use ipv4_fields::Endpoint;
 use std::alloc::Global;
 use std::io;
-use std::io::{BufReader, Write};
+use std::io::Write;
 use std::process::Abort;
 
 pub const SWITCH: Peer = Peer::Udp(Endpoint {
@@ -169,15 +167,6 @@ pub fn told_change<L: Lines, E: Write>(
         sent,
         printed,
     }
-}
-
-/// The lines of an input.
-pub fn lines_of<'a>(
-    rt: &impl Abort,
-    alloc: Global,
-    input: &'a [u8],
-) -> InputLines<BufReader<&'a [u8]>> {
-    InputLines::new(BufReader::new(alloc, input).expect(rt, "memory"))
 }
 
 // It is sent these lines in their order, and gives the reply of each, or none in time. Another line is not sent.

@@ -1,8 +1,9 @@
 //! The text for people about the requests that were not done.
 
-use super::memory_wire::{Arrival, SWITCH, lines_of, told_change, told_lines};
+use super::memory_wire::{Arrival, SWITCH, told_change, told_lines};
 use command_line::Failure;
-use control_client::WordLines;
+use command_streams::FromRead;
+use control_client::{InputLines, WordLines};
 
 // An input, the replies, and the text about its requests that were not done.
 struct Shown {
@@ -61,7 +62,8 @@ const SHOWN: [Shown; 5] = [
 #[test]
 fn refused_requests_are_shown(rt: HostRuntime) {
     for row in &SHOWN {
-        let mut lines = lines_of(&rt, rt.alloc(), row.input.as_bytes());
+        let mut read = FromRead::new(row.input.as_bytes());
+        let mut lines = InputLines::new(rt.alloc(), &mut read);
         let mut errs = Vec::new(rt.alloc());
         let told = told_lines(rt.alloc(), SWITCH, &mut lines, row.arrivals, &mut errs);
         assert!(rt; told.ended == row.ended);
@@ -76,7 +78,8 @@ const CHANGE_REFUSED: [Arrival; 1] = [Arrival::Answer("refused G3 line 2")];
 // If all lines are one change, the numbers are those of the lines that were sent.
 #[test]
 fn refused_change_is_shown(rt: HostRuntime) {
-    let mut lines = lines_of(&rt, rt.alloc(), CHANGE);
+    let mut read = FromRead::new(CHANGE);
+    let mut lines = InputLines::new(rt.alloc(), &mut read);
     let mut errs = Vec::new(rt.alloc());
     let told = told_change(rt.alloc(), &mut lines, &CHANGE_REFUSED, &mut errs);
     assert!(rt; told.ended == Ok(true));

@@ -1,6 +1,8 @@
 use Rattle.std.proofs.Common.{Bool}
 use Rattle.command_line.specs.declared.ending.Failure.TheVariants.{WriteFailed}
-use Rattle.command_streams.proofs.OutputLemmas.{counts_failure, ends_in_failure, ends_unwritten}
+use Rattle.command_line.specs.declared.ending.Status.{Status}
+use Rattle.command_streams.proofs.FailureLemmas.{both_causes}
+use Rattle.command_streams.proofs.OutputLemmas.{ends_once, ends_unread}
 use Rattle.command_operating.specs.Telling.{stopped, unwritten_refusal}
 use Rattle.command_operating.proofs.TellingLemmas.{never_unshown}
 use Rattle.command_operating.proofs.telling.run_tell.Goals as goal
@@ -13,16 +15,16 @@ returns-in-Err-clause-failed g c = λ is. (
 
 pub returns-in-Err-clause-device_failed : goal.returns-in-Err-clause-device_failed
 returns-in-Err-clause-device_failed g c =
-    ends_in_failure _ _ _ c.report.result c.in-Err.fault c.report.ensures.failed
+    ends_once _ _ _ c.report.result c.in-Err.fault _ _ c.report.ensures.failed
     (stopped c.in-Some.address c.in-Err.fault (g.E.Write.contents c.tell_words_or_input.new.errs) c.in-Some.ensures c.in-Err.ensures.stopped c.report.ensures.told)
-    (counts_failure Bool c.in-Err.fault _ _ c.in-Err.ensures.device_failed)
+    (both_causes Bool Status c.in-Err.fault _ _ _ _ c.in-Err.ensures.input_failed c.in-Err.ensures.device_failed)
 
 pub returns-in_default-clause-failed : goal.returns-in_default-clause-failed
 returns-in_default-clause-failed g c = λ is. (WriteFailed, unwritten_refusal c.in_default.ensures (c.refuse_address.ensures.failed is))
 
 pub returns-in_default-clause-device_failed : goal.returns-in_default-clause-device_failed
 returns-in_default-clause-device_failed g c =
-    ends_unwritten _ _ _ c.refuse_address.result (λ is. unwritten_refusal c.in_default.ensures (c.refuse_address.ensures.failed is)) c.refuse_address.ensures.device_failed
+    ends_unread _ _ _ c.refuse_address.result _ (λ is. unwritten_refusal c.in_default.ensures (c.refuse_address.ensures.failed is)) c.refuse_address.ensures.device_failed
 
 pub returns-in-Ok-true-clause-no_errors : goal.returns-in-Ok-true-clause-no_errors
 returns-in-Ok-true-clause-no_errors g c = λ cause. never_unshown c.args.switch.0.now c.in-Some.address c.args.errs.now c.tell_words_or_input.new.errs c.in-Some.ensures cause
