@@ -1,29 +1,13 @@
 -- How `serve` ends if it has no configuration, and what a file that is named is.
-use Rattle.std.proofs.Common.{◌≡◌, ◌∙◌, ◌<◌, ◌≤◌, ◌⊎◌, List, None, Option, Some, ap, arith, inl, inr, is_some, length, refl, subst, take, true, ℕ}
-use Rattle.std.proofs.lemmas.Bool.{cases_lt}
-use Rattle.std.proofs.lemmas.List.{length-take-le, take_all}
-use Rattle.std.specs.Io.KnownBytes.{Appends}
-use Rattle.std.specs.Io.Take.{take_inner, take_limit, take_remaining}
-use Rattle.std.specs.declared.io.traits.Take.{Take}
+use Rattle.std.proofs.Common.{◌≡◌, ◌⊎◌, List, None, Option, Some, inl, inr, is_some, refl, true, ℕ}
 use Rattle.std.specs.Prelude.{option_map}
 use Rattle.clap.specs.Words.{Text}
 use Rattle.command_line.specs.Ending.{AppendsBeginning, line_of}
-use Rattle.command_line.specs.Input.{IsInput}
 use Rattle.command_line.specs.declared.ending.Failure.{Failure}
 use Rattle.command_line.specs.declared.ending.Failure.TheVariants.{BindFailed, NoAnswer, OutOfMemory, ReadFailed, RulesChanged, WriteFailed}
-use Rattle.config_image.specs.Image.{Group}
-use Rattle.member_group.specs.Charge.{charge_of}
-use Rattle.versions.specs.declared.layout.TheConstants.{CHARGE_LIMIT}
-use Rattle.filter_program.specs.Program.{IsProgramFor}
-use Rattle.control_line.specs.declared.TheConstants.{BLOCK_LIMIT}
-use Rattle.control_line.specs.declared.reason.Reason.{Reason}
-use Rattle.control_line.specs.declared.rules_file.RulesFault.TheVariants as fault
-use Rattle.control_line.specs.Rules.{IsConfigOf, IsFaultOfFile, RefusesFileBy, bad_line, long, too_big}
-use Rattle.control_line.proofs.ChangeLemmas.{charged_alike}
-use Rattle.command_operating.specs.Opening.{EndsUnread, IsMadeFrom, RefusesRules, file_refusal_text}
+use Rattle.command_operating.specs.Opening.{EndsUnread}
 use Rattle.command_waiting.specs.Serving.{FailsServing, told_alone}
 use Rattle.command_waiting.specs.Waiting.{EndsInServeFailure, IsAddress, IsControl}
-use Rattle.command_operating.specs.body.Reading.{IsReadOf}
 
 -- a file that is named
 pub named : {A : Type 0} (text_of : A → Text) (file : Option A) → is_some file ≡ true → (name : Text) × (option_map text_of file ≡ Some name)

@@ -1,5 +1,5 @@
 -- The output of the commands that may wait (docs/COMMANDS.md, "flood", "serve", "tell", "rules", "load", "drain", "metrics", "top").
-use Rattle.std.specs.Prelude.{◌≡◌, ◌≢◌, ◌⊎◌, Bool, List, None, Option, Some, codes, false, true, ℕ}
+use Rattle.std.specs.Prelude.{◌≡◌, ◌≢◌, ◌⊎◌, Bool, List, None, Option, Some, codes, false, ℕ}
 use Rattle.std.specs.Io.KnownBytes.{Appends}
 use Rattle.clap.specs.Words.{Text}
 use Rattle.config_image.specs.Image.{Group}

@@ -100,6 +100,7 @@ fn run_over<
     ensures failed { result ≡ Status.Failed
         → EndsInWaitingFailure terminal (waiting_of command.entry) (I.state input.old).coming (W.contents out.old) (W.contents out.new)
         (E.contents errs.old) (E.contents errs.new) }
+    ensures borrow_kept { (W.failures out.new).borrow ≡ (W.failures out.old).borrow }
 {
     match command {
         Waiting::Flood { workers, datagrams } => {

@@ -2,7 +2,7 @@ use Rattle.std.proofs.Common.{Bor, List, rules, sym, ◌∙◌, ℕ}
 use Rattle.command_streams.proofs.OutputLemmas.{ends_as, ends_unwritten}
 use Rattle.command_waiting.specs.Serving.{told_alone}
 use Rattle.command_waiting.specs.Waiting.{no_rules}
-use Rattle.command_waiting.proofs.FailureLemmas.{fails_unwritten, named}
+use Rattle.command_waiting.proofs.FailureLemmas.{fails_serving, fails_unwritten, named}
 use Rattle.command_waiting.proofs.serving.run_serve.Goals as goal
 
 pub returns-in_default-clause-failed : goal.returns-in_default-clause-failed
@@ -36,4 +36,11 @@ returns-in_default-from_text-clause-device_failed g c =
     ends_unwritten _ _ _ refused.result (λ is. told_alone (refused.ensures.failed is)) refused.ensures.device_failed
 
 pub returns-in-Err-clause-device_failed : goal.returns-in-Err-clause-device_failed
-returns-in-Err-clause-device_failed g c = ends_as _ _ _ _ _ (λ failure told. told_alone told) c.in-Err.ensures.device_failed
+returns-in-Err-clause-device_failed g c = ends_as _ _ _ _ _ (λ failure unread. told_alone unread.told) c.in-Err.ensures.device_failed
+
+pub returns-clause-failed : goal.returns-clause-failed
+returns-clause-failed g c = λ is.
+    fails_serving _ _ _ _ _ _ _
+    (c.in-Some.address, c.in-Some.ensures.0, sym c.as_bytes.ensures.value ∙ c.in-Some.ensures.1)
+    (c.in-Some-from_text.control, c.in-Some-from_text.ensures)
+    (rw (c.in-Ok.ensures.unwritten, c.in-Ok.ensures.no_errors) at (c.serve_at.ensures.failed is))

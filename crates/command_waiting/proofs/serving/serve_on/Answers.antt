@@ -12,7 +12,7 @@ pub returns-in_default-clause-device_failed : goal.returns-in_default-clause-dev
 returns-in_default-clause-device_failed g c =
     ends_in_failure _ _ _ c.report.result OutOfMemory c.report.ensures.failed (told_alone c.report.ensures.told) refl
 
-pub returns-in-Err-clause-device_failed : goal.returns-in-Err-clause-device_failed
-returns-in-Err-clause-device_failed g c =
+pub returns-clause-device_failed : goal.returns-clause-device_failed
+returns-clause-device_failed g c =
     ends_in_failure _ _ _ c.report-in-Err.result c.in-Err.failure c.report-in-Err.ensures.failed (told_alone c.report-in-Err.ensures.told)
-    (counts_failure _ c.in-Err.failure _ _ c.in-Err.ensures.device_failed)
+    (counts_failure (Unit {0}) c.in-Err.failure _ _ c.in-Err.ensures.device_failed)
