@@ -3,8 +3,10 @@
 ghost use Rattle.std.specs.Prelude.{◌≤◌, IfSome, length};
 
 use command_line::Failure;
-use command_streams::CountedWriter;
-use control_client::{Came, Explains, Lines, Peer, Places, Wire, WireFailed, tell, tell_change};
+use command_streams::{CountedWriter, Input};
+use control_client::{
+    Came, Explains, InputLines, Lines, Peer, Places, Wire, WireFailed, tell, tell_change,
+};
 use ipv4_fields::Endpoint;
 use std::alloc::Global;
 use std::io;
@@ -167,6 +169,29 @@ pub fn told_change<L: Lines, E: Write>(
         sent,
         printed,
     }
+}
+
+/// Sends the lines of an input, as `told_lines` does.
+pub fn told_input<I: Input, E: Write>(
+    alloc: Global,
+    switch: Peer,
+    input: &mut I,
+    arrivals: &'static [Arrival],
+    errs: &mut E,
+) -> Told {
+    let mut lines = InputLines::new(alloc, input);
+    told_lines(alloc, switch, &mut lines, arrivals, errs)
+}
+
+/// The same as one change.
+pub fn told_input_change<I: Input, E: Write>(
+    alloc: Global,
+    input: &mut I,
+    arrivals: &'static [Arrival],
+    errs: &mut E,
+) -> Told {
+    let mut lines = InputLines::new(alloc, input);
+    told_change(alloc, &mut lines, arrivals, errs)
 }
 
 // It is sent these lines in their order, and gives the reply of each, or none in time. Another line is not sent.

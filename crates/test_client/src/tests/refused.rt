@@ -1,9 +1,9 @@
 //! The text for people about the requests that were not done.
 
-use super::memory_wire::{Arrival, SWITCH, told_change, told_lines};
+use super::memory_wire::{Arrival, SWITCH, told_input, told_input_change, told_lines};
 use command_line::Failure;
 use command_streams::FromRead;
-use control_client::{InputLines, WordLines};
+use control_client::WordLines;
 
 // An input, the replies, and the text about its requests that were not done.
 struct Shown {
@@ -63,9 +63,8 @@ const SHOWN: [Shown; 5] = [
 fn refused_requests_are_shown(rt: HostRuntime) {
     for row in &SHOWN {
         let mut read = FromRead::new(row.input.as_bytes());
-        let mut lines = InputLines::new(rt.alloc(), &mut read);
         let mut errs = Vec::new(rt.alloc());
-        let told = told_lines(rt.alloc(), SWITCH, &mut lines, row.arrivals, &mut errs);
+        let told = told_input(rt.alloc(), SWITCH, &mut read, row.arrivals, &mut errs);
         assert!(rt; told.ended == row.ended);
         assert!(rt; errs.as_slice() == row.shown.as_bytes(), "{}", row.shown);
     }
@@ -79,9 +78,8 @@ const CHANGE_REFUSED: [Arrival; 1] = [Arrival::Answer("refused G3 line 2")];
 #[test]
 fn refused_change_is_shown(rt: HostRuntime) {
     let mut read = FromRead::new(CHANGE);
-    let mut lines = InputLines::new(rt.alloc(), &mut read);
     let mut errs = Vec::new(rt.alloc());
-    let told = told_change(rt.alloc(), &mut lines, &CHANGE_REFUSED, &mut errs);
+    let told = told_input_change(rt.alloc(), &mut read, &CHANGE_REFUSED, &mut errs);
     assert!(rt; told.ended == Ok(true));
     assert!(rt; told.printed.as_slice() == b"refused G3 line 2\n".as_slice());
     assert!(rt; errs.as_slice() == b"- 3 5: refused G3 line 2\n".as_slice());

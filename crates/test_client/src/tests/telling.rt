@@ -1,9 +1,9 @@
 //! Lines sent over a wire in memory.
 
-use super::memory_wire::{Arrival, SWITCH, told_change, told_lines};
+use super::memory_wire::{Arrival, SWITCH, told_change, told_input, told_input_change, told_lines};
 use command_line::Failure;
 use command_streams::FromRead;
-use control_client::{InputLines, LONGEST_LINE, Peer, WordLines};
+use control_client::{LONGEST_LINE, Peer, WordLines};
 use std::alloc::Global;
 use std::io;
 use std::io::{ErrorKind, Write};
@@ -184,8 +184,7 @@ const THREE: [Arrival; 3] = [
 fn input_is_cut_into_lines(rt: HostRuntime) {
     for (input, sent) in &INPUTS {
         let mut read = FromRead::new(input.as_bytes());
-        let mut lines = InputLines::new(rt.alloc(), &mut read);
-        let told = told_lines(rt.alloc(), SWITCH, &mut lines, &THREE, &mut Full);
+        let told = told_input(rt.alloc(), SWITCH, &mut read, &THREE, &mut Full);
         assert!(rt; told.ended == Ok(false), "{input}");
         assert!(rt; told.sent.as_slice() == sent.as_bytes(), "{input}");
     }
@@ -195,8 +194,7 @@ fn input_is_cut_into_lines(rt: HostRuntime) {
 fn input_is_one_change(rt: HostRuntime) {
     for (input, sent) in &CHANGES {
         let mut read = FromRead::new(input.as_bytes());
-        let mut lines = InputLines::new(rt.alloc(), &mut read);
-        let told = told_change(rt.alloc(), &mut lines, &THREE, &mut Full);
+        let told = told_input_change(rt.alloc(), &mut read, &THREE, &mut Full);
         told.expect(&rt, Ok(false), sent, "ok\n");
     }
 }
@@ -225,16 +223,14 @@ fn long_line(rt: &impl Abort, alloc: Global, rest: &[u8]) -> Vec<u8> {
 fn long_line_is_not_sent(rt: HostRuntime) {
     let input = long_line(&rt, rt.alloc(), b"\nshow\n");
     let mut read = FromRead::new(input.as_slice());
-    let mut lines = InputLines::new(rt.alloc(), &mut read);
-    let told = told_lines(rt.alloc(), SWITCH, &mut lines, &THREE, &mut Full);
+    let told = told_input(rt.alloc(), SWITCH, &mut read, &THREE, &mut Full);
     told.expect(&rt, Ok(true), "show\n", "refused C2\nok\n");
 }
 
 fn long_line_is_sent(rt: &impl Abort, alloc: Global) {
     let input = long_line(rt, alloc, b"\n");
     let mut read = FromRead::new(input.as_slice());
-    let mut lines = InputLines::new(alloc, &mut read);
-    let told = told_lines(alloc, Peer::Unix, &mut lines, &THREE, &mut Full);
+    let told = told_input(alloc, Peer::Unix, &mut read, &THREE, &mut Full);
     assert!(rt; told.ended == Ok(false));
     assert!(rt; told.sent.as_slice() == input.as_slice());
 }
