@@ -6,9 +6,8 @@
 
 ghost use Rattle.std.specs.Prelude.{◌≡◌, ◌⊎◌, [], Some};
 ghost use Rattle.command_line.specs.CommandLine.{datagrams_in};
-ghost use Rattle.command_line.specs.Ending.{AppendsBeginning, line_of};
 ghost use Rattle.command_streams.specs.Endings.{EndsByCause};
-ghost use Rattle.command_flood.specs.Failing.{EndsInFloodFailure};
+ghost use Rattle.command_flood.specs.Failing.{EndsInFloodFailure, FloodFails};
 ghost use Rattle.command_flood.specs.Flood.{WritesFlood};
 ghost use Rattle.command_flood.specs.declared.flood_jobs.TheConstants.{LIMIT};
 ghost use Rattle.command_flood.specs.declared.flood_versions.TheConstants.{PUBLICATIONS};
@@ -52,7 +51,7 @@ pub fn run_flood<R: Threads + Wait + Sync, W: CountedWrite, E: Write>(
     ensures done_or_failed { (result ≡ Status.Done) ⊎ (result ≡ Status.Failed) }
     ensures failed { result ≡ Status.Failed
         → EndsInFloodFailure (W.contents out.old) (W.contents out.new) (E.contents errs.old) (E.contents errs.new) }
-    ensures device_failed { EndsByCause (λ cause. AppendsBeginning (E.contents errs.old) (E.contents errs.new) (line_of cause)) result
+    ensures device_failed { EndsByCause (FloodFails (W.contents out.old) (W.contents out.new) (E.contents errs.old) (E.contents errs.new)) result
         (W.failures out.old) (W.failures out.new) }
 {
     match flood_over(rt, alloc, workers.count, datagrams, &OpenGate, out) {

@@ -3,4 +3,3 @@ pub mod CauseLemmas
 mod SummaryLemmas
 mod KindLemmas
 mod LinesLemmas
-mod StopLemmas

@@ -1,6 +1,7 @@
 -- What a replay that failed has written, told of the input and the output that it was given.
 use Rattle.std.proofs.Common.{◌≡◌, ◌==◌, ◌∙◌, ◌<◌, ◌++◌, Bool, Err, List, None, Ok, Option, Result, Some, [], ap, append_assoc, arith, false, if◌then◌else◌, inl, inr, refl, subst, suc, sym, true, ℕ}
 use Rattle.std.proofs.lemmas.List.{append-nil}
+use Rattle.std.specs.Prelude.{OnOk}
 use Rattle.std.specs.Io.KnownBytes.{Appends, Consumes, IsAtEnd, Keeps}
 use Rattle.dispatch.specs.Memory.{MOST_FAILURES}
 use Rattle.control.specs.declared.fault.ReplayFault.{ReplayFault}
@@ -64,6 +65,14 @@ written_if failures None after told few written = tt
 written_if failures (Some bytes) None told few written = absurd (few written)
 written_if failures (Some bytes) (Some later) told few written = written
 
+-- whole replies are a beginning of them
+begun_before : (why : ReplayFault) (known before after : Option (List ℕ)) → RepliesBefore (failure_of_replay why) known before after → RepliesBefore WriteFailed known before after
+begun_before fault.ReadFailed known before after first =
+    (first.text, inl (first.lines, first.last, first.read, first.answered), (first.text, [], first.written, sym (append-nil first.text)))
+begun_before fault.WriteFailed known before after begun = begun
+begun_before fault.OutOfMemory known before after first =
+    (first.text, inl (first.lines, first.last, first.read, first.answered), (first.text, [], first.written, sym (append-nil first.text)))
+
 module _ (input input' : InputValue) (output output' : OutputValue) (now after : Option (List ℕ)) (new_output : output.failures ≡ 0)
     (told : output'.failures < MOST_FAILURES → now ≡ output'.taken) (kept : Keeps now after) where
   appended : (text : List ℕ) → output'.failures < MOST_FAILURES → Appends output.taken output'.taken text → Appends output.taken after text
@@ -108,14 +117,21 @@ module _ (input input' : InputValue) (output output' : OutputValue) (now after :
       }
   before_fault (Err _) _ is at_read at_write at_memory failed = absurd (cc is)
 
-  -- all was written, but the output failed behind it
-  pub before_failed_flush : output'.failures ≡ output.failures → IsReplayed input input' output output' → RepliesBefore WriteFailed (known_after input input') output.taken after
-  before_failed_flush same all =
-      let none : output'.failures ≡ 0 = same ∙ new_output in (
+  -- the replies could not be flushed
+  pub before_failed_flush : (result : Result (Unit {0}) ReplayFault) → OnOk result (IsReplayed input input' output output')
+      → (result ≡ Err fault.ReadFailed → AnsweredAllLines input input' output output')
+      → (result ≡ Err fault.WriteFailed → WroteBeginning input input' output output')
+      → (result ≡ Err fault.OutOfMemory → AnsweredFirstLines input input' output output')
+      → FailedBy result input input' output output'
+      → RepliesBefore WriteFailed (known_after input input') output.taken after
+  before_failed_flush (Ok done) all at_read at_write at_memory failed =
+      let none : output'.failures ≡ 0 = failed.1 ∙ new_output in (
         all.text,
         inr (answered_known input input' all.text (record { script = all.script; whole = is_whole input.coming input'.coming all.script all.read all.to_the_end; are = all.is_text })),
         (all.text, [], appended all.text (omega arith) all.written, sym (append-nil all.text)),
       )
+  before_failed_flush (Err why) all at_read at_write at_memory failed =
+      begun_before why (known_after input input') output.taken after (before_fault (Err why) why refl at_read at_write at_memory failed)
 
 -- the same of an output over a new destination
 module _ (input input' : InputValue) (output output' : OutputValue) (before now after : Option (List ℕ)) (opened : output ≡ record { failures = 0; taken = before })
@@ -135,9 +151,14 @@ module _ (input input' : InputValue) (output output' : OutputValue) (before now 
   fault_told result why is at_read at_write at_memory failed =
       of_output (failure_of_replay why) (before_fault input input' output output' now after no_output_failure told kept result why is at_read at_write at_memory failed)
 
-  pub failed_flush_told : output'.failures ≡ output.failures → IsReplayed input input' output output' → RepliesBefore WriteFailed (known_after input input') before after
-  failed_flush_told same all =
-      of_output WriteFailed (before_failed_flush input input' output output' now after no_output_failure told kept same all)
+  pub failed_flush_told : (result : Result (Unit {0}) ReplayFault) → OnOk result (IsReplayed input input' output output')
+      → (result ≡ Err fault.ReadFailed → AnsweredAllLines input input' output output')
+      → (result ≡ Err fault.WriteFailed → WroteBeginning input input' output output')
+      → (result ≡ Err fault.OutOfMemory → AnsweredFirstLines input input' output output')
+      → FailedBy result input input' output output'
+      → RepliesBefore WriteFailed (known_after input input') before after
+  failed_flush_told result all at_read at_write at_memory failed =
+      of_output WriteFailed (before_failed_flush input input' output output' now after no_output_failure told kept result all at_read at_write at_memory failed)
 
 -- ---- nothing was written
 

@@ -136,11 +136,22 @@ module _ (input input' : InputValue) (output output' : OutputValue) (before now 
       fault_told input input' from to before now after refl (λ less. refl) kept result why is
       (λ e. all_lines few (at_read e)) (λ e. beginning_here few (at_write e)) (λ e. first_lines few (at_memory e)) (failed_here result failed)
 
-  -- the output failed behind all the replies
-  pub counted_flush_told : (input'.failures ≡ input.failures) → output'.failures ≡ output.failures → IsReplayed input input' output output' → RepliesBefore WriteFailed (known_after input input') before after
-  counted_flush_told reads same all =
-      let few = few_failures (Ok tt) input input' output output' none (reads, same) in
-      failed_flush_told input input' from to before now after refl (λ less. refl) kept (same ∙ none) (replayed few all)
+  -- the replies could not be flushed
+  pub counted_flush_told : (result : Result (Unit {0}) ReplayFault) → OnOk result (IsReplayed input input' output output')
+      → (result ≡ Err fault.ReadFailed → AnsweredAllLines input input' output output')
+      → (result ≡ Err fault.WriteFailed → WroteBeginning input input' output output')
+      → (result ≡ Err fault.OutOfMemory → AnsweredFirstLines input input' output output')
+      → FailedBy result input input' output output'
+      → RepliesBefore WriteFailed (known_after input input') before after
+  counted_flush_told result all at_read at_write at_memory failed =
+      let few = few_failures result input input' output output' none failed in
+      failed_flush_told input input' from to before now after refl (λ less. refl) kept result (replayed_if few result all)
+      (λ e. all_lines few (at_read e)) (λ e. beginning_here few (at_write e)) (λ e. first_lines few (at_memory e)) (failed_here result failed)
+    where
+      replayed_if : output'.failures < MOST_FAILURES → (result : Result (Unit {0}) ReplayFault) → OnOk result (IsReplayed input input' output output')
+          → OnOk result (IsReplayed input input' from to)
+      replayed_if few (Ok done) all = replayed few all
+      replayed_if few (Err why) all = tt
 
 -- ---- the summary behind the replies
 

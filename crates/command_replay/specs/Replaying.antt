@@ -111,16 +111,15 @@ ReplayWritesBefore false true failure known before after = NothingBefore failure
 
 -- ---- which device made it fail
 
--- at most one more failed
-abbrev pub FailsOnceMore : FailuresValue → FailuresValue → Type 0
-FailsOnceMore before after = (after ≡ before) ⊎ (after ≡ one_more before)
+-- one write or flush failed, or one write and the flush after it
+abbrev pub FailsToWrite : FailuresValue → FailuresValue → Type 0
+FailsToWrite before after = (after ≡ one_more before) ⊎ (after ≡ one_more (one_more before))
 
--- as `HasCause`, but the replies are flushed also after a failure, and that flush may fail, too
+-- as `HasCause`; but the replies are flushed also after a failure, and if that flush fails the replay fails to write, whatever failed before
 abbrev pub HasCauseThenFlush : {A : Type 0} → Result A Failure → ℕ → ℕ → FailuresValue → FailuresValue → Type 0
-HasCauseThenFlush (Ok answer) read read' written written' = (read' ≡ read) × (written' ≡ written)
-HasCauseThenFlush (Err ReadFailed) read read' written written' = (read' ≡ suc read) × FailsOnceMore written written'
-HasCauseThenFlush (Err WriteFailed) read read' written written' = (read' ≡ read) × FailsOnceMore (one_more written) written'
-HasCauseThenFlush (Err failure) read read' written written' = (read' ≡ read) × FailsOnceMore written written'
+HasCauseThenFlush (Err WriteFailed) read read' written written' =
+    ((read' ≡ read) × FailsToWrite written written') ⊎ ((read' ≡ suc read) × (written' ≡ one_more written))
+HasCauseThenFlush result read read' written written' = HasCause result read read' written written'
 
 -- with `--quiet` there are no replies to flush
 abbrev pub ReplayHasCause : {A : Type 0} → Bool → Result A Failure → ℕ → ℕ → FailuresValue → FailuresValue → Type 0

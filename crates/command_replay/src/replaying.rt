@@ -56,12 +56,11 @@ fn replay_written<L: Opened, R: Input, W: CountedWrite>(
 {
     let mut output = ReplyOutput::<W, L>::new(out);
     let answer = replay(alloc, input, &mut output);
-    let flushed = output.into_inner().flush();
+    if output.into_inner().flush().is_err() {
+        return Err(Failure::WriteFailed);
+    }
     match answer {
-        Ok(()) => {
-            flushed.map_err(|_| Failure::WriteFailed)?;
-            Ok(Status::Done)
-        }
+        Ok(()) => Ok(Status::Done),
         Err(fault) => Err(failure_of(fault)),
     }
 }

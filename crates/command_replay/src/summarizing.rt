@@ -69,12 +69,11 @@ fn count_written<L: Opened, R: Input, W: CountedWrite>(
     let mut output = CountedOutput::<W, L>::new(alloc, out);
     let answer = replay(alloc, input, &mut output);
     let (written, counts) = output.into_parts();
-    let flushed = written.flush();
+    if written.flush().is_err() {
+        return Err(Failure::WriteFailed);
+    }
     match answer {
-        Ok(()) => {
-            flushed.map_err(|_| Failure::WriteFailed)?;
-            Ok(counts)
-        }
+        Ok(()) => Ok(counts),
         Err(fault) => Err(failure_of(fault)),
     }
 }

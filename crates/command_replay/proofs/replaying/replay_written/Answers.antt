@@ -1,8 +1,6 @@
 use Rattle.std.proofs.Common.{Err, ap, refl, rules}
-use Rattle.command_line.specs.declared.ending.Failure.TheVariants.{WriteFailed}
-use Rattle.command_replay.specs.Replaying.{RepliesBefore}
+use Rattle.command_replay.proofs.CauseLemmas.{flush_cause}
 use Rattle.command_replay.proofs.RepliesLemmas.{failed_flush_told, fault_told}
-use Rattle.command_replay.proofs.StopLemmas.{stopped_as}
 use Rattle.command_replay.proofs.replaying.replay_written.Goals as goal
 
 pub returns-in-Err-clause-failed_written : goal.returns-in-Err-clause-failed_written
@@ -13,25 +11,18 @@ returns-in-Err-clause-failed_written g c =
     (fault_told _ _ _ _ _ (g.W.CountedWrite.contents c.into_inner.result.now) _ (ap (λ v. v.output) c.new-output.ensures.opened) c.into_inner.ensures.contents (search rules)
     (Err why) why refl told.text_before_failed_read told.text_before_failed_write told.text_before_no_memory told.device_failed)
 
-pub returns-in_err-map_err-in-Ok-clause-failed_written :
-    goal.returns-in_err-map_err-in-Ok-clause-failed_written
-returns-in_err-map_err-in-Ok-clause-failed_written g c =
-    let told = c.in-Ok.ensures in
-    stopped_as c.from_residual.result (λ failure. RepliesBefore failure _ (g.W.CountedWrite.contents c.args.out.now) _) WriteFailed (search rules)
-    (failed_flush_told _ _ _ _ _ (g.W.CountedWrite.contents c.into_inner.result.now) _ (ap (λ v. v.output) c.new-output.ensures.opened) c.into_inner.ensures.contents (search rules)
-    told.device_failed.1 told.script_text)
+pub returns-then-is_err-clause-failed_written : goal.returns-then-is_err-clause-failed_written
+returns-then-is_err-clause-failed_written g c =
+    let told = c.replay-answer.ensures in
+    failed_flush_told _ _ _ _ _ (g.W.CountedWrite.contents c.into_inner.result.now) _ (ap (λ v. v.output) c.new-output.ensures.opened) c.into_inner.ensures.contents (search rules)
+    c.replay-answer.result told.script_text told.text_before_failed_read told.text_before_failed_write told.text_before_no_memory told.device_failed
+
+pub returns-then-is_err-clause-device_failed : goal.returns-then-is_err-clause-device_failed
+returns-then-is_err-clause-device_failed g c =
+    flush_cause c.replay-answer.result _ _ _ _ _ _ _ (ap (λ v. v.output.failures) c.new-output.ensures.opened) c.replay-answer.ensures.device_failed ? ?
 
 pub returns-in-Err-clause-failed : goal.returns-in-Err-clause-failed
 returns-in-Err-clause-failed g c = search rules
 
 pub returns-in-Err-clause-written : goal.returns-in-Err-clause-written
 returns-in-Err-clause-written g c = search rules
-
-pub returns-in_ok-map_err-in-Ok-clause-failed : goal.returns-in_ok-map_err-in-Ok-clause-failed
-returns-in_ok-map_err-in-Ok-clause-failed g c = search rules
-
-pub returns-in_ok-map_err-in-Ok-clause-failed_written : goal.returns-in_ok-map_err-in-Ok-clause-failed_written
-returns-in_ok-map_err-in-Ok-clause-failed_written g c = search rules
-
-pub returns-in_ok-map_err-in-Ok-clause-written : goal.returns-in_ok-map_err-in-Ok-clause-written
-returns-in_ok-map_err-in-Ok-clause-written g c = search rules
