@@ -63,7 +63,7 @@ pub flush_borrow : {A : Type 0} (result : Result A Failure) (read read' : ℕ) (
 flush_borrow (Ok answer) read read' written written' cause = ap (λ (f : FailuresValue). f.borrow) cause.1
 flush_borrow (Err ReadFailed) read read' written written' cause = ap (λ (f : FailuresValue). f.borrow) cause.1
 flush_borrow (Err WriteFailed) read read' written written' cause = elim cause [
-    inl none ↦ elim none.1 [ inl one ↦ ap (λ (f : FailuresValue). f.borrow) one | inr two ↦ ap (λ (f : FailuresValue). f.borrow) two ]
+  | inl none ↦ elim none.1 [ inl one ↦ ap (λ (f : FailuresValue). f.borrow) one | inr two ↦ ap (λ (f : FailuresValue). f.borrow) two ]
   | inr once ↦ ap (λ (f : FailuresValue). f.borrow) once.1
 ]
 flush_borrow (Err OutOfMemory) read read' written written' cause = ap (λ (f : FailuresValue). f.borrow) cause.1

@@ -122,7 +122,36 @@ fn new_wire(alloc: Global, switch: Peer, left: &'static [Arrival]) -> MemoryWire
     }
 }
 
-/// Sends the lines to a switch over a wire in memory.
+/// Sends the lines to a switch over a wire in memory. Returns how that ended, and the lines that were sent.
+pub fn told_into<L: Lines, W: Write, E: Write>(
+    alloc: Global,
+    switch: Peer,
+    lines: &mut L,
+    arrivals: &'static [Arrival],
+    out: &mut W,
+    errs: &mut E,
+) -> (Result<bool, Failure>, Vec<u8>) {
+    let mut wire = new_wire(alloc, switch, arrivals);
+    let mut counted = CountedWriter::new(out);
+    let ended = tell(
+        alloc,
+        lines,
+        &mut wire,
+        switch,
+        &mut counted,
+        errs,
+        &Numbers,
+    );
+    let _ = counted.into_inner();
+    let MemoryWire {
+        switch: _,
+        left: _,
+        sent,
+    } = wire;
+    (ended, sent)
+}
+
+/// The same, and what was printed.
 pub fn told_lines<L: Lines, E: Write>(
     alloc: Global,
     switch: Peer,
@@ -130,16 +159,8 @@ pub fn told_lines<L: Lines, E: Write>(
     arrivals: &'static [Arrival],
     errs: &mut E,
 ) -> Told {
-    let mut wire = new_wire(alloc, switch, arrivals);
     let mut printed = Vec::new(alloc);
-    let mut out = CountedWriter::new(&mut printed);
-    let ended = tell(alloc, lines, &mut wire, switch, &mut out, errs, &Numbers);
-    let _ = out.into_inner();
-    let MemoryWire {
-        switch: _,
-        left: _,
-        sent,
-    } = wire;
+    let (ended, sent) = told_into(alloc, switch, lines, arrivals, &mut printed, errs);
     Told {
         ended,
         sent,

@@ -1,6 +1,8 @@
 //! Lines sent over a wire in memory.
 
-use super::memory_wire::{Arrival, SWITCH, told_change, told_input, told_input_change, told_lines};
+use super::memory_wire::{
+    Arrival, SWITCH, told_change, told_input, told_input_change, told_into, told_lines,
+};
 use command_line::Failure;
 use command_streams::FromRead;
 use control_client::{LONGEST_LINE, Peer, WordLines};
@@ -20,6 +22,20 @@ impl Write for Full {
 
     fn flush(&mut self) -> io::Result<()> {
         Ok(())
+    }
+}
+
+// Each flush of it fails, and no write.
+#[derive(Drop)]
+struct Unflushed;
+
+impl Write for Unflushed {
+    fn write(&mut self, buf: &[u8]) -> io::Result<usize> {
+        Ok(buf.len())
+    }
+
+    fn flush(&mut self) -> io::Result<()> {
+        Err(io::Error::from(ErrorKind::BrokenPipe))
     }
 }
 
@@ -210,6 +226,22 @@ fn words_are_one_change(rt: HostRuntime) {
         "all 3\n# first\nadd 10.0.0.2:53\r\n\n",
         "ok\n",
     );
+}
+
+// Each reply is flushed before the next line is sent.
+#[test]
+fn unflushed_reply_is_e2(rt: HostRuntime) {
+    let mut words = WordLines::new(&["show", "sweep"]);
+    let (ended, sent) = told_into(
+        rt.alloc(),
+        SWITCH,
+        &mut words,
+        &THREE,
+        &mut Unflushed,
+        &mut Full,
+    );
+    assert!(rt; ended == Err(Failure::WriteFailed));
+    assert!(rt; sent.as_slice() == b"show\n");
 }
 
 // A line that is longer than a datagram may carry, and then these.

@@ -33,11 +33,12 @@ pub fn at(port: u16) -> Endpoint {
 /// The most times that a test looks whether something has come.
 pub const TURNS: u32 = 10_000_000;
 
-/// The output of `serve`, and the ports in its ready line: the front's times 65,536, and control's. Before that line it
-/// is 0.
+/// The output of `serve` as far as it was flushed, and the ports in its ready line: the front's times 65,536, and control's. Before
+/// that line is flushed it is 0.
 #[derive(Drop)]
 pub struct Output {
     pub bytes: Vec<u8>,
+    unflushed: Vec<u8>,
     ports: Ports,
 }
 
@@ -47,6 +48,7 @@ pub fn new_output(rt: &impl Abort, alloc: Global) -> (Output, Ports) {
     let ports = Arc::new(alloc, AtomicU64::new(0)).ok().expect(rt, "memory");
     let output = Output {
         bytes: Vec::new(alloc),
+        unflushed: Vec::new(alloc),
         ports: Arc::try_clone(&ports).expect(rt, "a second owner"),
     };
     (output, ports)
@@ -85,16 +87,20 @@ fn ports_in(line: &[u8]) -> Option<u64> {
 
 impl Write for Output {
     fn write(&mut self, buf: &[u8]) -> io::Result<usize> {
-        if self.bytes.extend_from_slice(buf).is_err() {
-            return Err(io::Error::from(ErrorKind::OutOfMemory));
+        match self.unflushed.extend_from_slice(buf) {
+            Ok(()) => Ok(buf.len()),
+            Err(_) => Err(io::Error::from(ErrorKind::OutOfMemory)),
         }
-        if let Some(ports) = ports_in(&self.bytes) {
-            self.ports.store(ports, Ordering::SeqCst);
-        }
-        Ok(buf.len())
     }
 
     fn flush(&mut self) -> io::Result<()> {
+        if self.bytes.extend_from_slice(&self.unflushed).is_err() {
+            return Err(io::Error::from(ErrorKind::OutOfMemory));
+        }
+        self.unflushed.clear();
+        if let Some(ports) = ports_in(&self.bytes) {
+            self.ports.store(ports, Ordering::SeqCst);
+        }
         Ok(())
     }
 }
