@@ -1,3 +1,4 @@
+mod FailingLemmas
 mod FloodLemmas
 mod PublicationLemmas
 mod StandardFacts

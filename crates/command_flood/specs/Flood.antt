@@ -12,6 +12,7 @@ use Rattle.command_flood.specs.FloodVersions.{opening_version}
 use Rattle.command_flood.specs.Traffic.{numbers_below, share_of}
 use Rattle.dispatch.specs.Counted.{IsCounted}
 use Rattle.dispatch.specs.Totals.{WritesTotals}
+use Rattle.command_totals.specs.Beginning.{BeginsTotals}
 
 -- the parts of a job over memory
 abbrev pub parts_of : WorkerValue → CounterValue → List (List ℕ) → SendsValue → Parts
@@ -45,3 +46,7 @@ IsFlooded workers datagrams totals = IsCounted opening_version BUFFER LIMIT (Are
 -- the line of such totals was written, and nothing else
 abbrev pub WritesFlood : ℕ → ℕ → Option (List ℕ) → Option (List ℕ) → Type 0
 WritesFlood workers datagrams before after = (totals : Totals) × IsFlooded workers datagrams totals × WritesTotals totals before after
+
+-- a beginning of such a line was, possibly none of it or the whole
+abbrev pub BeginsFlood : ℕ → ℕ → Option (List ℕ) → Option (List ℕ) → Type 0
+BeginsFlood workers datagrams before after = (totals : Totals) × IsFlooded workers datagrams totals × BeginsTotals totals before after

@@ -6,7 +6,7 @@ ghost use Rattle.versions.specs.declared.layout.TheConstants.{WORKERS};
 ghost use Rattle.dispatch.specs.Counted.{IsNewWorker};
 ghost use Rattle.command_streams.specs.Failures.{OutputFails};
 ghost use Rattle.command_flood.specs.Failing.{IsRunFailure};
-ghost use Rattle.command_flood.specs.Flood.{IsFlooded, WritesFlood};
+ghost use Rattle.command_flood.specs.Flood.{BeginsFlood, IsFlooded, WritesFlood};
 ghost use Rattle.command_flood.specs.FloodVersions.{opening_version, successor_at};
 ghost use Rattle.command_flood.specs.Publications.{AreTried};
 ghost use Rattle.command_flood.specs.Traffic.{numbers_below};
@@ -94,6 +94,7 @@ pub fn flood_over<R: Threads + Wait + Sync, G: Gate + Sync, W: CountedWrite>(
     requires at_most { workers ≤ WORKERS }
     ensures totals_line { OnOk result (WritesFlood workers datagrams (W.contents out.old) (W.contents out.new)) }
     ensures nothing_written { IfErr result (λ failure. failure ≢ Failure.WriteFailed → out.new ≡ out.old) }
+    ensures begun { IfErr result (λ failure. failure ≡ Failure.WriteFailed → BeginsFlood workers datagrams (W.contents out.old) (W.contents out.new)) }
     ensures no_input { IfErr result (λ failure. (failure ≢ Failure.ReadFailed) × (failure ≢ Failure.NoAnswer) × (failure ≢ Failure.RulesChanged)) }
     ensures no_socket { IfErr result (λ failure. (failure ≢ Failure.BindFailed) × (failure ≢ Failure.PollFailed)) }
     ensures device_failed { OutputFails result (W.failures out.old) (W.failures out.new) }
@@ -118,6 +119,7 @@ pub fn flood<R: Threads + Wait + Sync, G: Gate + Sync, W: Write>(
     requires at_most { workers ≤ WORKERS }
     ensures totals_line { OnOk result (WritesFlood workers datagrams (W.contents out.old) (W.contents out.new)) }
     ensures nothing_written { IfErr result (λ failure. failure ≢ Failure.WriteFailed → out.new ≡ out.old) }
+    ensures begun { IfErr result (λ failure. failure ≡ Failure.WriteFailed → BeginsFlood workers datagrams (W.contents out.old) (W.contents out.new)) }
     ensures no_input { IfErr result (λ failure. (failure ≢ Failure.ReadFailed) × (failure ≢ Failure.NoAnswer) × (failure ≢ Failure.RulesChanged)) }
     ensures no_socket { IfErr result (λ failure. (failure ≢ Failure.BindFailed) × (failure ≢ Failure.PollFailed)) }
 {

@@ -50,8 +50,9 @@ pub fn run_flood<R: Threads + Wait + Sync, W: CountedWrite, E: Write>(
     ensures no_errors { result ≡ Status.Done → errs.new ≡ errs.old }
     ensures done_or_failed { (result ≡ Status.Done) ⊎ (result ≡ Status.Failed) }
     ensures failed { result ≡ Status.Failed
-        → EndsInFloodFailure (W.contents out.old) (W.contents out.new) (E.contents errs.old) (E.contents errs.new) }
-    ensures device_failed { EndsByCause (FloodFails (W.contents out.old) (W.contents out.new) (E.contents errs.old) (E.contents errs.new)) result
+        → EndsInFloodFailure workers.count datagrams (W.contents out.old) (W.contents out.new) (E.contents errs.old) (E.contents errs.new) }
+    ensures device_failed { EndsByCause
+        (FloodFails workers.count datagrams (W.contents out.old) (W.contents out.new) (E.contents errs.old) (E.contents errs.new)) result
         (W.failures out.old) (W.failures out.new) }
 {
     match flood_over(rt, alloc, workers.count, datagrams, &OpenGate, out) {

@@ -7,7 +7,9 @@ use Rattle.control.specs.Streams.{InputValue, OutputValue}
 use Rattle.command_replay.specs.body.Opened.{failures_after}
 use Rattle.command_line.specs.declared.ending.Failure.{Failure}
 use Rattle.command_line.specs.declared.ending.Failure.TheVariants.{BindFailed, NoAnswer, OutOfMemory, PollFailed, ReadFailed, RulesChanged, SpawnFailed, WriteFailed}
-use Rattle.command_streams.specs.Failures.{FailuresValue, HasCause, one_more}
+use Rattle.command_streams.specs.Failures.{CountsUpTo, FailuresValue, HasCause, one_more}
+use Rattle.dispatch.specs.declared.device.Failed.{Failed}
+use Rattle.std.specs.Result.{is_err}
 use Rattle.command_replay.specs.Replaying.{HasCauseThenFlush, ReplayHasCause}
 
 -- the flush need not fail
@@ -40,17 +42,21 @@ reads_once A PollFailed read read' written written' cause = inl cause.0
 reads_once A NoAnswer read read' written written' cause = inl cause.0
 reads_once A RulesChanged read read' written written' cause = inl cause.0
 
+pub flush_failed : (result : Result (Unit {0}) Failed) (before after : FailuresValue) → is_err result ≡ true → CountsUpTo result before after → after ≡ one_more before
+flush_failed (Ok done) before after is counts = absurd cc
+flush_failed (Err why) before after is counts = counts
+
 -- the replies could not be flushed after a replay over a new output
-pub flush_cause : {A : Type 0} (result : Result (Unit {0}) ReplayFault) (input input' : InputValue) (output output' : OutputValue) (opened mid after : FailuresValue)
+pub flush_cause : (A : Type 0) (result : Result (Unit {0}) ReplayFault) (input input' : InputValue) (output output' : OutputValue) (opened mid after : FailuresValue)
     → output.failures ≡ 0 → FailedBy result input input' output output' → mid ≡ failures_after output'.failures opened → after ≡ one_more mid
     → HasCauseThenFlush {A = A} (Err WriteFailed) input.failures input'.failures opened after
-flush_cause result input input' output output' opened mid after none failed left flushed = flushed_by result failed
+flush_cause A result input input' output output' opened mid after none failed left flushed = flushed_by result failed
   where
     so_often : (n : ℕ) → output'.failures ≡ n → after ≡ one_more (failures_after n opened)
     so_often n is = flushed ∙ ap one_more (left ∙ ap (λ m. failures_after m opened) is)
 
     flushed_by : (result : Result (Unit {0}) ReplayFault) → FailedBy result input input' output output'
-        → HasCauseThenFlush (Err WriteFailed) input.failures input'.failures opened after
+        → HasCauseThenFlush {A = A} (Err WriteFailed) input.failures input'.failures opened after
     flushed_by (Ok done) failed = inl (failed.0, inl (so_often 0 (failed.1 ∙ none)))
     flushed_by (Err fault.ReadFailed) failed = inr (failed.0, so_often 0 (failed.1 ∙ none))
     flushed_by (Err fault.WriteFailed) failed = inl (failed.0, inr (so_often 1 (failed.1 ∙ ap suc none)))

@@ -1,1 +1,2 @@
+pub mod BeginningLemmas
 mod HalfLemmas

@@ -6,6 +6,7 @@
 ghost use Rattle.std.specs.Prelude.{◌≡◌, ◌++◌, IfErr, OnOk, codes};
 ghost use Rattle.command_streams.specs.Failures.{OutputFails};
 ghost use Rattle.dispatch.specs.Totals.{WritesTotals};
+ghost use Rattle.command_totals.specs.Beginning.{BeginsTotals};
 ghost use Rattle.command_totals.specs.body.Halves.{first_half, second_half};
 
 use command_line::Failure;
@@ -44,9 +45,10 @@ fn second_half(totals: &Totals) -> Reply
     line
 }
 
-/// Writes the line, and flushes it. Takes no memory.
+/// Writes the line, or a beginning of it if a write fails, and flushes it. Takes no memory.
 pub fn write_totals<W: CountedWrite>(totals: &Totals, out: &mut W) -> Result<(), Failure>
     ensures written { OnOk result (WritesTotals totals.now (W.contents out.old) (W.contents out.new)) }
+    ensures beginning { BeginsTotals totals.now (W.contents out.old) (W.contents out.new) }
     ensures failed { IfErr result (λ failure. failure ≡ Failure.WriteFailed) }
     ensures device_failed { OutputFails result (W.failures out.old) (W.failures out.new) }
 {

@@ -95,7 +95,8 @@ pub record EndsInServeFailure (front control : Text) (file : Option Text) (befor
 
 -- the command failed
 abbrev pub EndsInWaitingFailure : (terminal : Bool) → WaitingRequest → (input before after told_before told_after : Option (List ℕ)) → Type 0
-EndsInWaitingFailure terminal (flood workers datagrams) input before after told_before told_after = EndsInFloodFailure before after told_before told_after
+EndsInWaitingFailure terminal (flood workers datagrams) input before after told_before told_after =
+    EndsInFloodFailure workers datagrams before after told_before told_after
 EndsInWaitingFailure terminal (serve front control workers file logs receive buffer) input before after told_before told_after =
     EndsInServeFailure front control file before after told_before told_after
 EndsInWaitingFailure terminal (tell control timeout all lines) input before after told_before told_after =

@@ -6,10 +6,13 @@ use Rattle.std.proofs.lemmas.List.Elements.{All-append, All-cons, All-head, All-
 use Rattle.command_line.specs.declared.control_address.ControlAddress.{ControlAddress}
 use Rattle.config_image.specs.Image.{Group}
 use Rattle.dispatch.specs.Batch.{Parts}
+use Rattle.dispatch.specs.Counted.{IsCounted}
 use Rattle.dispatch.specs.Device.{SourceValue}
+use Rattle.dispatch.specs.declared.kind.Totals.{Totals}
 use Rattle.serve_devices.specs.Devices.{WorkerSourceValue, new_source, source_of}
-use Rattle.serve_udp.specs.Service.{AreServiceStarts, AreStartsOf, HasSilentDevices, HasSilentOutbox, WritesCounted, WritesServedAt}
+use Rattle.serve_udp.specs.Service.{AreServiceStarts, AreStartsOf, BeginsCounted, BeginsServedAt, HasSilentDevices, HasSilentOutbox, WritesCounted, WritesServedAt, ready_begun, totals_begun}
 use Rattle.serve_udp.specs.body.Jobs.{AreNewSources}
+use Rattle.serve_udp.specs.declared.jobs.TheConstants.{LIMIT}
 use Rattle.serve_udp.specs.declared.sockets.TheConstants.{LONGEST_DATAGRAM}
 
 -- ---- jobs start with their sources
@@ -54,24 +57,33 @@ silent_starts workers sources starts new are = (
 )
 
 -- so many of them are all that is known
+silent_counted : (opening : List Group) (workers : ℕ) (sources : List WorkerSourceValue) (totals : Totals) → AreNewSources workers sources
+    → IsCounted opening LONGEST_DATAGRAM LIMIT (AreStartsOf sources) totals → IsCounted opening LONGEST_DATAGRAM LIMIT (AreServiceStarts workers) totals
+silent_counted opening workers sources totals new counted = record {
+  versions = counted.versions;
+  table = counted.table;
+  starts = counted.starts;
+  ends = counted.ends;
+  new_workers = counted.new_workers;
+  new_counters = counted.new_counters;
+  are_starts = silent_starts workers sources counted.starts new counted.are_starts;
+  run_to_the_end = counted.run_to_the_end;
+  sum_exact = counted.sum_exact;
+}
+
 pub silent_served : (control : ControlAddress) (opening : List Group) (workers : ℕ) (sources : List WorkerSourceValue) (before after : Option (List ℕ))
     → AreNewSources workers sources → WritesCounted control opening (AreStartsOf sources) before after → WritesServedAt control opening workers before after
-silent_served control opening workers sources before after new written =
-    let counted = written.is_counted in record {
-      front = written.front;
-      totals = written.totals;
-      between = written.between;
-      ready = written.ready;
-      is_counted = record {
-        versions = counted.versions;
-        table = counted.table;
-        starts = counted.starts;
-        ends = counted.ends;
-        new_workers = counted.new_workers;
-        new_counters = counted.new_counters;
-        are_starts = silent_starts workers sources counted.starts new counted.are_starts;
-        run_to_the_end = counted.run_to_the_end;
-        sum_exact = counted.sum_exact;
-      };
-      totals_line = written.totals_line;
-    }
+silent_served control opening workers sources before after new written = record {
+  front = written.front;
+  totals = written.totals;
+  between = written.between;
+  ready = written.ready;
+  is_counted = silent_counted opening workers sources written.totals new written.is_counted;
+  totals_line = written.totals_line;
+}
+
+pub silent_begun : (control : ControlAddress) (opening : List Group) (workers : ℕ) (sources : List WorkerSourceValue) (before after : Option (List ℕ))
+    → AreNewSources workers sources → BeginsCounted control opening (AreStartsOf sources) before after → BeginsServedAt control opening workers before after
+silent_begun control opening workers sources before after new (ready_begun front begun) = ready_begun front begun
+silent_begun control opening workers sources before after new (totals_begun front totals between ready counted begun) =
+    totals_begun front totals between ready (silent_counted opening workers sources totals new counted) begun

@@ -2,7 +2,10 @@
 use Rattle.std.proofs.Common.{◌≡◌, ◌≢◌, Err, IfErr, Ok, Option, List, Result, rules, ℕ}
 use Rattle.command_line.specs.declared.ending.Failure.{Failure}
 use Rattle.command_line.specs.declared.ending.Failure.TheVariants.{WriteFailed}
-use Rattle.serve_udp.specs.Service.{IsServeFailure, WritesReadyOrNothing}
+use Rattle.command_line.specs.declared.control_address.ControlAddress.{ControlAddress}
+use Rattle.config_image.specs.Image.{Group}
+use Rattle.dispatch.specs.Batch.{Parts}
+use Rattle.serve_udp.specs.Service.{BeginsCounted, IsServeFailure, WritesReadyOrNothing}
 
 pub write_is_of_serve : (failure : Failure) → failure ≡ WriteFailed → IsServeFailure failure
 write_is_of_serve failure is = search rules
@@ -16,3 +19,15 @@ pub only_writes_end : {A : Type 0} (result : Result A Failure) (before after : O
     → IfErr result (λ failure. failure ≢ WriteFailed → WritesReadyOrNothing before after)
 only_writes_end {A = A} (Ok done) before after failed = failed
 only_writes_end {A = A} (Err failure) before after failed = λ other. absurd (other failed)
+
+-- if that failed, a beginning of the line of totals was written
+pub begins_totals : {A : Type 0} (result : Result A Failure) (control : ControlAddress) (opening : List Group) (AreStarts : List Parts → Type 0)
+    (before after : Option (List ℕ)) → BeginsCounted control opening AreStarts before after
+    → IfErr result (λ failure. failure ≡ WriteFailed → BeginsCounted control opening AreStarts before after)
+begins_totals (Ok done) control opening AreStarts before after begun = tt
+begins_totals (Err failure) control opening AreStarts before after begun = λ is. begun
+
+pub begun_weaker : {A : Type 0} (result : Result A Failure) (P Q : Type 0) → (P → Q) → IfErr result (λ failure. failure ≡ WriteFailed → P)
+    → IfErr result (λ failure. failure ≡ WriteFailed → Q)
+begun_weaker (Ok done) P Q weaker begun = tt
+begun_weaker (Err failure) P Q weaker begun = λ is. weaker (begun is)

@@ -2,6 +2,7 @@
 use Rattle.std.specs.Prelude.{◌≡◌, ◌≢◌, ◌++◌, ◌⊎◌, List, None, Option, [], codes, length, map, reverse, ℕ}
 use Rattle.std.specs.Io.KnownBytes.{Appends}
 use Rattle.std.specs.List.{All}
+use Rattle.command_line.specs.Ending.{AppendsBeginning}
 use Rattle.command_line.specs.declared.ending.Failure.{Failure}
 use Rattle.command_line.specs.declared.ending.Failure.TheVariants.{NoAnswer, ReadFailed, RulesChanged}
 use Rattle.command_line.specs.ControlAddress.{address_text}
@@ -14,6 +15,7 @@ use Rattle.ipv4_fields.specs.declared.endpoint.Endpoint.{Endpoint}
 use Rattle.serve_devices.specs.Devices.{WorkerSourceValue, source_of}
 use Rattle.dispatch.specs.Counted.{IsCounted}
 use Rattle.dispatch.specs.Totals.{WritesTotals}
+use Rattle.command_totals.specs.Beginning.{BeginsTotals}
 use Rattle.serve_udp.specs.declared.jobs.TheConstants.{LIMIT}
 use Rattle.serve_udp.specs.declared.sockets.TheConstants.{LONGEST_DATAGRAM}
 
@@ -66,14 +68,29 @@ pub record WritesCounted (control : ControlAddress) (opening : List Group) (AreS
   pub is_counted : IsCounted opening LONGEST_DATAGRAM LIMIT AreStarts totals
   pub totals_line : WritesTotals totals between after
 
+-- a beginning of the line `ready` was written; or that line, and a beginning of the line of such totals
+pub data BeginsCounted (control : ControlAddress) (opening : List Group) (AreStarts : List Parts → Type 0) (before after : Option (List ℕ)) : Type 0 where
+  ready_begun : (front : Endpoint) → AppendsBeginning before after (ready_text front control) → BeginsCounted control opening AreStarts before after
+  totals_begun : (front : Endpoint) (totals : Totals) (between : Option (List ℕ)) → WritesReady front control before between →
+      IsCounted opening LONGEST_DATAGRAM LIMIT AreStarts totals → BeginsTotals totals between after → BeginsCounted control opening AreStarts before after
+
 -- for the jobs of this many workers
 abbrev pub WritesServedAt : ControlAddress → List Group → ℕ → Option (List ℕ) → Option (List ℕ) → Type 0
 WritesServedAt control opening workers before after = WritesCounted control opening (AreServiceStarts workers) before after
+
+abbrev pub BeginsServedAt : ControlAddress → List Group → ℕ → Option (List ℕ) → Option (List ℕ) → Type 0
+BeginsServedAt control opening workers before after = BeginsCounted control opening (AreServiceStarts workers) before after
 
 -- for some address of control
 abbrev pub WritesServedFrom : List Group → ℕ → Option (List ℕ) → Option (List ℕ) → Type 0
 WritesServedFrom opening workers before after = (control : ControlAddress) × WritesServedAt control opening workers before after
 
+abbrev pub BeginsServedFrom : List Group → ℕ → Option (List ℕ) → Option (List ℕ) → Type 0
+BeginsServedFrom opening workers before after = (control : ControlAddress) × BeginsServedAt control opening workers before after
+
 -- as a switch does that begins without groups
 abbrev pub WritesServed : ℕ → Option (List ℕ) → Option (List ℕ) → Type 0
 WritesServed workers before after = WritesServedFrom [] workers before after
+
+abbrev pub BeginsServed : ℕ → Option (List ℕ) → Option (List ℕ) → Type 0
+BeginsServed workers before after = BeginsServedFrom [] workers before after

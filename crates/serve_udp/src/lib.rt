@@ -10,7 +10,7 @@ ghost use Rattle.member_group.specs.Charge.{charge_of};
 ghost use Rattle.versions.specs.declared.layout.TheConstants.{CHARGE_LIMIT, WORKERS};
 ghost use Rattle.command_streams.specs.Failures.{OutputFails};
 ghost use Rattle.serve_udp.specs.declared.jobs.TheConstants.{LIMIT};
-ghost use Rattle.serve_udp.specs.Service.{AreStartsOf, IsServeFailure, WritesCounted, WritesReadyOrNothing, WritesServed, WritesServedAt, WritesServedFrom};
+ghost use Rattle.serve_udp.specs.Service.{AreStartsOf, BeginsCounted, BeginsServed, BeginsServedAt, BeginsServedFrom, IsServeFailure, WritesCounted, WritesReadyOrNothing, WritesServed, WritesServedAt, WritesServedFrom};
 ghost use Rattle.serve_udp.specs.Front.{HasFronts};
 ghost use Rattle.serve_udp.specs.body.Jobs.{AreTotalsOf, HaveNewCounters};
 
@@ -136,6 +136,7 @@ fn serve_intake<
     ensures no_input { IfErr result IsServeFailure }
     ensures not_bound { result ≡ Err Failure.BindFailed → out.new ≡ out.old }
     ensures ready_or_nothing { IfErr result (λ failure. failure ≢ Failure.WriteFailed → WritesReadyOrNothing (W.contents out.old) (W.contents out.new)) }
+    ensures begun { IfErr result (λ failure. failure ≡ Failure.WriteFailed → BeginsCounted control.entry config (AreStartsOf intake.entry.sources.items) (W.contents out.old) (W.contents out.new)) }
     ensures device_failed { OutputFails result (W.failures out.old) (W.failures out.new) }
 {
     let alloc = *config.allocator();
@@ -175,6 +176,7 @@ pub fn serve_bound<R: Threads + Wait + Net + Sync, G: Gate + Sync, W: CountedWri
     ensures no_input { IfErr result IsServeFailure }
     ensures not_bound { result ≡ Err Failure.BindFailed → out.new ≡ out.old }
     ensures ready_or_nothing { IfErr result (λ failure. failure ≢ Failure.WriteFailed → WritesReadyOrNothing (W.contents out.old) (W.contents out.new)) }
+    ensures begun { IfErr result (λ failure. failure ≡ Failure.WriteFailed → BeginsServedAt sockets.entry.place config workers (W.contents out.old) (W.contents out.new)) }
     ensures device_failed { OutputFails result (W.failures out.old) (W.failures out.new) }
 {
     let alloc = *config.allocator();
@@ -225,6 +227,7 @@ pub fn serve_over<R: Threads + Wait + Net + Sync, G: Gate + Sync, W: CountedWrit
     ensures no_input { IfErr result IsServeFailure }
     ensures not_bound { result ≡ Err Failure.BindFailed → out.new ≡ out.old }
     ensures ready_or_nothing { IfErr result (λ failure. failure ≢ Failure.WriteFailed → WritesReadyOrNothing (W.contents out.old) (W.contents out.new)) }
+    ensures begun { IfErr result (λ failure. failure ≡ Failure.WriteFailed → BeginsServedFrom config workers (W.contents out.old) (W.contents out.new)) }
     ensures device_failed { OutputFails result (W.failures out.old) (W.failures out.new) }
 {
     let alloc = *config.allocator();
@@ -256,6 +259,7 @@ fn serve_by<R: Threads + Wait + Net + Sync, G: Gate + Sync, W: Write>(
     ensures no_input { IfErr result IsServeFailure }
     ensures not_bound { result ≡ Err Failure.BindFailed → out.new ≡ out.old }
     ensures ready_or_nothing { IfErr result (λ failure. failure ≢ Failure.WriteFailed → WritesReadyOrNothing (W.contents out.old) (W.contents out.new)) }
+    ensures begun { IfErr result (λ failure. failure ≡ Failure.WriteFailed → BeginsServedFrom config workers (W.contents out.old) (W.contents out.new)) }
 {
     let mut results = CountedWriter::new(out);
     let ended = serve_over(rt, config, front, control, workers, gate, &mut results);
@@ -280,6 +284,7 @@ pub fn serve_with<R: Threads + Wait + Net + Sync, G: Gate + Sync, W: Write>(
     ensures no_input { IfErr result IsServeFailure }
     ensures not_bound { result ≡ Err Failure.BindFailed → out.new ≡ out.old }
     ensures ready_or_nothing { IfErr result (λ failure. failure ≢ Failure.WriteFailed → WritesReadyOrNothing (W.contents out.old) (W.contents out.new)) }
+    ensures begun { IfErr result (λ failure. failure ≡ Failure.WriteFailed → BeginsServedFrom config workers (W.contents out.old) (W.contents out.new)) }
 {
     let front = FrontRequest {
         address: front,
@@ -305,6 +310,7 @@ pub fn serve<R: Threads + Wait + Net + Sync, G: Gate + Sync, W: Write>(
     ensures no_input { IfErr result IsServeFailure }
     ensures not_bound { result ≡ Err Failure.BindFailed → out.new ≡ out.old }
     ensures ready_or_nothing { IfErr result (λ failure. failure ≢ Failure.WriteFailed → WritesReadyOrNothing (W.contents out.old) (W.contents out.new)) }
+    ensures begun { IfErr result (λ failure. failure ≡ Failure.WriteFailed → BeginsServed workers (W.contents out.old) (W.contents out.new)) }
 {
     let config = Config::new(alloc);
     serve_with(rt, config, front, control, workers, gate, out)
@@ -327,6 +333,7 @@ pub fn serve_direct<R: Threads + Wait + Net + Sync, G: Gate + Sync, W: Write>(
     ensures no_input { IfErr result IsServeFailure }
     ensures not_bound { result ≡ Err Failure.BindFailed → out.new ≡ out.old }
     ensures ready_or_nothing { IfErr result (λ failure. failure ≢ Failure.WriteFailed → WritesReadyOrNothing (W.contents out.old) (W.contents out.new)) }
+    ensures begun { IfErr result (λ failure. failure ≡ Failure.WriteFailed → BeginsServed workers (W.contents out.old) (W.contents out.new)) }
 {
     let front = FrontRequest {
         address: front,

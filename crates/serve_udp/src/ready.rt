@@ -3,9 +3,10 @@
 ghost use Rattle.std.specs.Prelude.{◌≡◌, ◌++◌, IfErr, OnOk, codes};
 ghost use Rattle.std.specs.Io.KnownBytes.{Appends};
 ghost use Rattle.command_line.specs.ControlAddress.{address_text};
+ghost use Rattle.command_line.specs.Ending.{AppendsBeginning};
 ghost use Rattle.command_streams.specs.Failures.{OutputFails};
 ghost use Rattle.ipv4_fields.specs.Endpoint.{endpoint_text};
-ghost use Rattle.serve_udp.specs.Service.{WritesReady, ready_front};
+ghost use Rattle.serve_udp.specs.Service.{WritesReady, ready_front, ready_text};
 
 use command_line::{ControlAddress, Failure};
 use command_streams::{CountedWrite, write_through, write_whole};
@@ -26,6 +27,7 @@ fn ready_front(front: Endpoint) -> Reply
 fn write_endpoint<W: CountedWrite>(endpoint: Endpoint, out: &mut W) -> Result<(), Failure>
     ensures failed { IfErr result (λ failure. failure ≡ Failure.WriteFailed) }
     ensures written { OnOk result (Appends (W.contents out.old) (W.contents out.new) (endpoint_text endpoint)) }
+    ensures beginning { AppendsBeginning (W.contents out.old) (W.contents out.new) (endpoint_text endpoint) }
     ensures device_failed { OutputFails result (W.failures out.old) (W.failures out.new) }
 {
     let mut text = Reply::empty();
@@ -36,6 +38,7 @@ fn write_endpoint<W: CountedWrite>(endpoint: Endpoint, out: &mut W) -> Result<()
 fn write_path<W: CountedWrite>(path: &str, out: &mut W) -> Result<(), Failure>
     ensures failed { IfErr result (λ failure. failure ≡ Failure.WriteFailed) }
     ensures written { OnOk result (Appends (W.contents out.old) (W.contents out.new) (codes "unix:" ++ path.now)) }
+    ensures beginning { AppendsBeginning (W.contents out.old) (W.contents out.new) (codes "unix:" ++ path.now) }
     ensures device_failed { OutputFails result (W.failures out.old) (W.failures out.new) }
 {
     write_whole(b"unix:".as_slice(), out)?;
@@ -45,6 +48,7 @@ fn write_path<W: CountedWrite>(path: &str, out: &mut W) -> Result<(), Failure>
 fn write_address<W: CountedWrite>(control: ControlAddress<'_>, out: &mut W) -> Result<(), Failure>
     ensures failed { IfErr result (λ failure. failure ≡ Failure.WriteFailed) }
     ensures written { OnOk result (Appends (W.contents out.old) (W.contents out.new) (address_text control.entry)) }
+    ensures beginning { AppendsBeginning (W.contents out.old) (W.contents out.new) (address_text control.entry) }
     ensures device_failed { OutputFails result (W.failures out.old) (W.failures out.new) }
 {
     match control {
@@ -61,6 +65,7 @@ pub fn write_ready<W: CountedWrite>(
 ) -> Result<(), Failure>
     ensures failed { IfErr result (λ failure. failure ≡ Failure.WriteFailed) }
     ensures written { OnOk result (WritesReady front control.entry (W.contents out.old) (W.contents out.new)) }
+    ensures beginning { AppendsBeginning (W.contents out.old) (W.contents out.new) (ready_text front control.entry) }
     ensures device_failed { OutputFails result (W.failures out.old) (W.failures out.new) }
 {
     write_whole(ready_front(front).bytes(), out)?;

@@ -1,5 +1,7 @@
-use Rattle.std.proofs.Common.{Err, ap, refl, rules}
-use Rattle.command_replay.proofs.CauseLemmas.{flush_cause}
+use Rattle.std.proofs.Common.{◌∙◌, Err, ap, refl, rules, sym}
+use Rattle.command_line.specs.declared.ending.Status.{Status}
+use Rattle.command_replay.specs.body.Opened.{failures_after}
+use Rattle.command_replay.proofs.CauseLemmas.{flush_cause, flush_failed}
 use Rattle.command_replay.proofs.RepliesLemmas.{failed_flush_told, fault_told}
 use Rattle.command_replay.proofs.replaying.replay_written.Goals as goal
 
@@ -19,7 +21,9 @@ returns-then-is_err-clause-failed_written g c =
 
 pub returns-then-is_err-clause-device_failed : goal.returns-then-is_err-clause-device_failed
 returns-then-is_err-clause-device_failed g c =
-    flush_cause c.replay-answer.result _ _ _ _ _ _ _ (ap (λ v. v.output.failures) c.new-output.ensures.opened) c.replay-answer.ensures.device_failed ? ?
+    flush_cause Status c.replay-answer.result _ _ _ _ _ _ _ (ap (λ v. v.output.failures) c.new-output.ensures.opened) c.replay-answer.ensures.device_failed
+    (c.into_inner.ensures.failures ∙ ap (failures_after _) c.requires)
+    (search (rules, flush_failed _ _ _ (sym c.is_err.ensures.value ∙ c.if-is_err.true) c.flush.ensures.device_failed))
 
 pub returns-in-Err-clause-failed : goal.returns-in-Err-clause-failed
 returns-in-Err-clause-failed g c = search rules
