@@ -1,5 +1,5 @@
 -- Failures of the service.
-use Rattle.std.proofs.Common.{◌≡◌, ◌≢◌, Err, IfErr, Ok, Option, List, Result, rules, ℕ}
+use Rattle.std.proofs.Common.{◌≡◌, ◌≢◌, Err, IfErr, Ok, Option, List, Result, rules, subst, ℕ}
 use Rattle.command_line.specs.declared.ending.Failure.{Failure}
 use Rattle.command_line.specs.declared.ending.Failure.TheVariants.{WriteFailed}
 use Rattle.command_line.specs.declared.control_address.ControlAddress.{ControlAddress}
@@ -31,3 +31,9 @@ pub begun_weaker : {A : Type 0} (result : Result A Failure) (P Q : Type 0) → (
     → IfErr result (λ failure. failure ≡ WriteFailed → Q)
 begun_weaker (Ok done) P Q weaker begun = tt
 begun_weaker (Err failure) P Q weaker begun = λ is. weaker (begun is)
+
+pub begun_between : {A : Type 0} (result : Result A Failure) (P : Option (List ℕ) → Option (List ℕ) → Type 0) (before before' after after' : Option (List ℕ))
+    → before ≡ before' → after ≡ after' → IfErr result (λ failure. failure ≡ WriteFailed → P before after) → IfErr result (λ failure. failure ≡ WriteFailed → P before' after')
+begun_between result P before before' after after' first last begun =
+    subst (λ bytes. IfErr result (λ failure. failure ≡ WriteFailed → P before' bytes)) last
+    (subst (λ bytes. IfErr result (λ failure. failure ≡ WriteFailed → P bytes after)) first begun)

@@ -1,13 +1,19 @@
 //! The program `dswitch`: its arguments, its standard streams and its exit status (docs/COMMANDS.md).
 #![tactic(auto)]
 
+ghost use Rattle.std.specs.Prelude.{◌≡◌, IfSome, Ok};
+
 use command_line::{Failure, refuse_arguments, wants_control, with_control};
 use command_returning::run_returning;
 use command_waiting::run_waiting;
 use std::env::{Env, VarError};
+use std::fs::{File, OpenOptions};
 use std::io::{ErrorKind, IsTerminal, LineWriter};
+use std::os::fd::{AsRawFd, RawFd};
 use std::process::ExitCode;
 use std::{env, io};
+
+const NULL: &str = "/dev/null";
 
 // The words after the program's name, with the address of control from the environment if they lack it.
 fn arguments<R: Env + AllocGlobal>(rt: &R) -> io::Result<Vec<String>> {
@@ -23,7 +29,25 @@ fn arguments<R: Env + AllocGlobal>(rt: &R) -> io::Result<Vec<String>> {
     }
 }
 
+// The file, if it is open at one of these descriptors.
+fn at<F: AsRawFd + Drop>(opened: io::Result<F>, first: RawFd, last: RawFd) -> Option<F>
+    ensures { IfSome result (λ file. opened ≡ Ok file) }
+{
+    let file = opened.ok()?;
+    let number = file.as_raw_fd();
+    if first <= number && number <= last {
+        Some(file)
+    } else {
+        None
+    }
+}
+
 fn main(rt: HostRuntime) -> ExitCode {
+    // A standard descriptor that the caller closed would be that of the first socket, and results would go to a switch. So it is
+    // opened, and in a way that its reads or writes fail.
+    let _input = at(OpenOptions::new().write(true).open(&rt, NULL), 0, 0);
+    let _results = at(File::open(&rt, NULL), 1, 2);
+    let _errors = at(File::open(&rt, NULL), 1, 2);
     let mut errs = rt.stderr();
     let words = match arguments(&rt) {
         Ok(words) => words,

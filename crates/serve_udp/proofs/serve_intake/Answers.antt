@@ -56,7 +56,7 @@ returns-clause-begun g c =
     })
     c.in_ok-totals.totals totals.sum_exact in
     begins_totals c.write_totals.result _ _ _ _ _
-    (totals_begun _ c.in_ok-totals.totals (g.W.CountedWrite.contents c.write_ready.new.out) ? is_counted c.write_totals.ensures.beginning)
+    (totals_begun _ c.in_ok-totals.totals (g.W.CountedWrite.contents c.write_ready.new.out) c.in_default.ensures.written is_counted c.write_totals.ensures.beginning)
 
 pub returns-in-Err-clause-begun : goal.returns-in-Err-clause-begun
 returns-in-Err-clause-begun g c = λ is. ready_begun _ c.write_ready.ensures.beginning
