@@ -1,7 +1,7 @@
 -- How `flood` fails.
-use Rattle.std.proofs.Common.{◌≡◌, ◌≢◌, ◌⊎◌, List, Option, ap, inl, inr, ℕ}
+use Rattle.std.proofs.Common.{◌≡◌, ◌≢◌, List, Option, ap, inl, inr, ℕ}
 use Rattle.command_line.specs.declared.ending.Failure.{Failure}
-use Rattle.command_line.specs.declared.ending.Failure.TheVariants.{BindFailed, NoAnswer, OutOfMemory, PollFailed, ReadFailed, RulesChanged, SpawnFailed, WriteFailed}
+use Rattle.command_line.specs.declared.ending.Failure.TheVariants.{BindFailed, NoAnswer, PollFailed, ReadFailed, RulesChanged, WriteFailed}
 use Rattle.command_line.specs.Ending.{AppendsBeginning, line_of}
 use Rattle.command_flood.specs.Failing.{FloodFails, IsRunFailure}
 use Rattle.command_flood.specs.Flood.{BeginsFlood}

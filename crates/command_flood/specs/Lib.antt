@@ -3,3 +3,4 @@ pub mod Flood
 pub mod FloodVersions
 pub mod Publications
 pub mod Traffic
+pub mod body

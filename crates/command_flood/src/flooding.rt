@@ -10,6 +10,7 @@ ghost use Rattle.command_flood.specs.Flood.{BeginsFlood, IsFlooded, WritesFlood}
 ghost use Rattle.command_flood.specs.FloodVersions.{opening_version, successor_at};
 ghost use Rattle.command_flood.specs.Publications.{AreTried};
 ghost use Rattle.command_flood.specs.Traffic.{numbers_below};
+ghost use Rattle.command_flood.specs.body.Jobs.{AreTotalsOf, HaveNewCounters};
 ghost use Rattle.command_flood.specs.declared.flood_versions.TheConstants.{PUBLICATIONS};
 
 use crate::flood_jobs::jobs;
@@ -17,7 +18,9 @@ use crate::flood_versions::{opening, successors};
 use command_line::Failure;
 use command_streams::{CountedWrite, CountedWriter};
 use command_totals::write_totals;
-use dispatch::{Gate, RunFault, Tally, Totals, gather, run_counted};
+use dispatch::{
+    Counter, Datagrams, Gate, Job, RunFault, Sends, Tally, Totals, gather, run_counted,
+};
 use member_group::Config;
 use read_section::{Operator, WORKERS, Worker, open_within, spread};
 use retire::Retire;
@@ -57,6 +60,29 @@ fn failed(fault: RunFault) -> Failure
     }
 }
 
+// Runs the jobs, and tries the publications beside them. Then sums up what the jobs counted.
+fn count_jobs<R: Threads + Wait + Sync, G: Gate + Sync>(
+    rt: &R,
+    alloc: Global,
+    jobs: Vec<Job<Datagrams, Sends>>,
+    counters: (Tally, Vec<Counter>),
+    updates: (Operator, Vec<Config>),
+    gate: &G,
+) -> Result<Totals, Failure>
+    requires counters { HaveNewCounters counters.0.table counters.1.items jobs.items }
+    ensures totals { IfOk result (AreTotalsOf jobs.items) }
+    ensures run_fault { IfErr result IsRunFailure }
+{
+    let (tally, spare) = counters;
+    let (mut operator, successors) = updates;
+    match run_counted(rt, alloc, jobs, spare, gate, move || {
+        publish_each(&mut operator, successors);
+    }) {
+        Ok(counters) => Ok(gather(tally, counters)),
+        Err(fault) => Err(failed(fault)),
+    }
+}
+
 fn count_all<R: Threads + Wait + Sync, G: Gate + Sync>(
     rt: &R,
     alloc: Global,
@@ -69,16 +95,18 @@ fn count_all<R: Threads + Wait + Sync, G: Gate + Sync>(
     ensures totals { IfOk result (IsFlooded workers datagrams) }
     ensures run_fault { IfErr result IsRunFailure }
 {
-    let (mut operator, mut seats, successors) = open_versions(alloc)?;
+    let (operator, mut seats, successors) = open_versions(alloc)?;
     let (tally, mut spare) = Tally::open(alloc)?;
     spread(&mut seats);
     let jobs = jobs(alloc, &mut seats, &mut spare, workers, datagrams)?;
-    match run_counted(rt, alloc, jobs, spare, gate, move || {
-        publish_each(&mut operator, successors);
-    }) {
-        Ok(counters) => Ok(gather(tally, counters)),
-        Err(fault) => Err(failed(fault)),
-    }
+    count_jobs(
+        rt,
+        alloc,
+        jobs,
+        (tally, spare),
+        (operator, successors),
+        gate,
+    )
 }
 
 /// Judges the datagrams, as `flood` does, and writes the totals to an output whose failures are counted.

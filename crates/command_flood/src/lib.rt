@@ -9,7 +9,7 @@ ghost use Rattle.command_line.specs.CommandLine.{datagrams_in};
 ghost use Rattle.command_streams.specs.Endings.{EndsByCause};
 ghost use Rattle.command_flood.specs.Failing.{EndsInFloodFailure, FloodFails};
 ghost use Rattle.command_flood.specs.Flood.{WritesFlood};
-ghost use Rattle.command_flood.specs.declared.flood_jobs.TheConstants.{LIMIT};
+ghost use Rattle.command_flood.specs.declared.flood_jobs.TheConstants.{BUFFER, LIMIT};
 ghost use Rattle.command_flood.specs.declared.flood_versions.TheConstants.{PUBLICATIONS};
 
 mod flood_jobs;
@@ -35,6 +35,7 @@ pub fn limits_as_numbers()
     ensures unasked { datagrams_in [] ≡ Some DATAGRAMS }
     ensures publications { PUBLICATIONS ≡ 64 }
     ensures batch { LIMIT ≡ 64 }
+    ensures room { BUFFER ≡ 64 }
 {}
 
 /// Runs the command, and returns the exit status.

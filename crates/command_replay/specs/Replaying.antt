@@ -1,7 +1,7 @@
 -- The output of `replay`, by its options `--summary` and `--quiet` (docs/COMMANDS.md, "replay"). If there are two truth values, the
 -- first says that `--summary` is given, the second that `--quiet` is. `known` are the bytes of the input, if they are known.
 -- `before` and `after` are the contents of the output before and after the command, if they are known.
-use Rattle.std.specs.Prelude.{◌≡◌, ◌++◌, ◌⊎◌, Bool, Err, List, Ok, Option, Result, [], false, suc, true, ℕ}
+use Rattle.std.specs.Prelude.{◌≡◌, ◌++◌, ◌⊎◌, Bool, Err, List, Option, Result, [], false, suc, true, ℕ}
 use Rattle.std.specs.Io.KnownBytes.{Appends}
 use Rattle.command_line.specs.Ending.{AppendsBeginning}
 use Rattle.command_line.specs.declared.ending.Failure.{Failure}

@@ -12,3 +12,6 @@ returns-clause-publications c = search rules
 
 pub returns-clause-unasked : goal.returns-clause-unasked
 returns-clause-unasked c = search rules
+
+pub returns-clause-room : goal.returns-clause-room
+returns-clause-room c = search rules

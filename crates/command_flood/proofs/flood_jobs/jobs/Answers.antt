@@ -5,7 +5,8 @@ use Rattle.dispatch.specs.Device.{SourceValue}
 use Rattle.dispatch.specs.Counted.{IsNew, IsNewWorker}
 use Rattle.command_flood.specs.Flood.{AreStartsOf, HasRoom}
 use Rattle.command_flood.specs.FloodVersions.{opening_version}
-use Rattle.command_flood.proofs.FloodLemmas.{FloodJob, start_of, starts_more}
+use Rattle.command_flood.specs.body.Jobs.{FloodJob}
+use Rattle.command_flood.proofs.FloodLemmas.{start_of, starts_more}
 use Rattle.command_flood.proofs.flood_jobs.jobs.Goals as goal
 
 pub loop-place-preserved : goal.loop-place-preserved

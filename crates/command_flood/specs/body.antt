@@ -1,0 +1,2 @@
+-- Models of the code: what the contracts of private functions cite. No public clause depends on them.
+pub mod Jobs
