@@ -3,3 +3,5 @@ mod MeasuringLemmas
 mod TellingLemmas
 mod OpeningLemmas
 mod ReportLemmas
+mod PrintingLemmas
+mod ScreenLemmas

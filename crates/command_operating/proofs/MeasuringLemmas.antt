@@ -21,7 +21,8 @@ use Rattle.control_counters.specs.Watching.{Watches}
 use Rattle.counter_text.specs.Screen.{screen_text}
 use Rattle.counter_text.specs.declared.counters.Counters.{Counters}
 use Rattle.counter_text.specs.declared.counters.FrontDrops.{FrontDrops}
-use Rattle.command_operating.specs.Measured.{AreFrontDrops, AreScreens, TopFails, WatchesOf, WritesMetrics, WritesScreens, clear_text, first_reading, one_more}
+use Rattle.command_operating.specs.Measured.{AreFrontDrops, AreScreens, PrintsTop, TopFails, WatchesOf, WritesMetrics, WritesScreens, WritesTop, clear_text, first_reading, one_more}
+use Rattle.command_operating.specs.Printing.{Begins}
 use Rattle.command_operating.specs.Reported.{IsTold, told_alone}
 use Rattle.control_counters.proofs.WatchLemmas.{watches_then, watches_weaker}
 use Rattle.command_operating.specs.body.Front.{IsFrontOf, IsGivenFront, PrintsMetrics}
@@ -134,15 +135,17 @@ writes_metrics control address front endpoint before after spells given prints =
 }
 
 module _ (control : Text) (clears : Bool) (count : ℕ) (before after told_before told_after : Option (List ℕ)) where
-  pub top_unwritten : AppendsBeginning told_before told_after (line_of WriteFailed) → TopFails control clears count before after told_before told_after WriteFailed
-  top_unwritten told = record { written = λ other. absurd (other refl); told = told_alone told }
+  pub top_unwritten : Begins (PrintsTop control clears count) before after → AppendsBeginning told_before told_after (line_of WriteFailed)
+      → TopFails control clears count before after told_before told_after WriteFailed
+  top_unwritten so_far told = record { written = λ other. absurd (other refl); begun = λ is. so_far; told = told_alone told }
 
   -- it failed at an address that was read
-  pub top_failed : (switch : Peer) (failure : Failure) → (failure ≢ WriteFailed → ShowsFewer clears count switch before after) →
-      IsTold (Some control) failure told_before told_after → TopFails control clears count before after told_before told_after failure
-  top_failed switch failure fewer told = record { written = λ other. of_switch (fewer other); told = told }
+  pub top_failed : (address : ControlAddress) (failure : Failure) → SpellsControlAddress control address
+      → (failure ≢ WriteFailed → ShowsFewer clears count (peer_of address) before after) → (failure ≡ WriteFailed → Begins (PrintsTop control clears count) before after)
+      → IsTold (Some control) failure told_before told_after → TopFails control clears count before after told_before told_after failure
+  top_failed address failure spells fewer begun told = record { written = λ other. at_address (fewer other); begun = begun; told = told }
     where
-      of_switch : ShowsFewer clears count switch before after
-          → (after ≡ before) ⊎ ((switch : Peer) × (shown : ℕ) × (shown < count) × WritesScreens switch clears shown before after)
-      of_switch (inl same) = inl same
-      of_switch (inr (shown, fewer, written)) = inr (switch, shown, fewer, written)
+      at_address : ShowsFewer clears count (peer_of address) before after
+          → (after ≡ before) ⊎ ((shown : ℕ) × (shown < count) × WritesTop control clears shown before after)
+      at_address (inl same) = inl same
+      at_address (inr (shown, fewer, written)) = inr (shown, fewer, record { address = address; is_address = spells; written = written })

@@ -1,6 +1,7 @@
 pub mod Draining
 pub mod Measured
 pub mod Opening
+pub mod Printing
 pub mod RefusalLines
 pub mod Reported
 pub mod Showing

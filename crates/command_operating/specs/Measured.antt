@@ -1,11 +1,11 @@
 -- The output of the commands `metrics` and `top`, by the counters of a switch (docs/COMMANDS.md, "metrics", "top").
-use Rattle.std.specs.Prelude.{◌≡◌, ◌≢◌, ◌≤◌, ◌<◌, ◌+◌, ◌⊎◌, ◌++◌, ◌∷◌, Bool, List, None, Option, Some, [], false, true, ℕ}
+use Rattle.std.specs.Prelude.{◌≡◌, ◌≢◌, ◌≤◌, ◌<◌, ◌+◌, ◌⊎◌, ◌++◌, ◌∷◌, Bool, List, None, Option, Some, [], codes, false, true, ℕ}
 use Rattle.std.specs.Io.KnownBytes.{Appends}
 use Rattle.std.specs.List.{All}
 use Rattle.clap.specs.Words.{Text}
 use Rattle.ipv4_fields.specs.Endpoint.{IsEndpoint, endpoint_text}
 use Rattle.ipv4_fields.specs.declared.endpoint.Endpoint.{Endpoint}
-use Rattle.command_line.specs.ControlAddress.{SpellsControlAddress}
+use Rattle.command_line.specs.ControlAddress.{IsNoControlAddress, SpellsControlAddress}
 use Rattle.command_line.specs.declared.control_address.ControlAddress.{ControlAddress}
 use Rattle.command_line.specs.declared.ending.Failure.{Failure}
 use Rattle.command_line.specs.declared.ending.Failure.TheVariants.{WriteFailed}
@@ -19,6 +19,7 @@ use Rattle.counter_text.specs.Screen.{screen_text}
 use Rattle.counter_text.specs.Sockets.{AreDropsAt}
 use Rattle.counter_text.specs.declared.counters.Counters.{Counters}
 use Rattle.counter_text.specs.declared.counters.FrontDrops.{FrontDrops}
+use Rattle.command_operating.specs.Printing.{Begins}
 use Rattle.command_operating.specs.Reported.{IsTold}
 
 -- lines were exchanged with a switch, and this is so of them and of each switch of which all their replies are true
@@ -78,10 +79,16 @@ pub record WritesTop (control : Text) (clears : Bool) (count : ℕ) (before afte
   pub is_address : SpellsControlAddress control address
   pub written : WritesScreens (peer_of address) clears count before after
 
--- it failed so; but for writes whole screens were written, and fewer than were wanted, or nothing
+-- what `top` writes: at most so many screens, or that it is given no address
+abbrev pub PrintsTop : Text → Bool → ℕ → Option (List ℕ) → Option (List ℕ) → Type 0
+PrintsTop control clears count before after =
+    ((shown : ℕ) × (shown ≤ count) × WritesTop control clears shown before after) ⊎ (IsNoControlAddress control × Appends before after (codes "refused C1\n"))
+
+-- it failed so; but for writes whole screens were written, and fewer than were wanted, or nothing; if a write failed, a beginning of what
+-- it writes
 pub record TopFails (control : Text) (clears : Bool) (count : ℕ) (before after told_before told_after : Option (List ℕ)) (failure : Failure) : Type 0 where
-  pub written : failure ≢ WriteFailed
-      → (after ≡ before) ⊎ ((switch : Peer) × (shown : ℕ) × (shown < count) × WritesScreens switch clears shown before after)
+  pub written : failure ≢ WriteFailed → (after ≡ before) ⊎ ((shown : ℕ) × (shown < count) × WritesTop control clears shown before after)
+  pub begun : failure ≡ WriteFailed → Begins (PrintsTop control clears count) before after
   pub told : IsTold (Some control) failure told_before told_after
 
 abbrev pub EndsInTopFailure : Text → Bool → ℕ → (before after told_before told_after : Option (List ℕ)) → Type 0

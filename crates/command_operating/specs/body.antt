@@ -3,3 +3,4 @@ pub mod Reading
 pub mod Asked
 pub mod Front
 pub mod Screens
+pub mod Drained

@@ -36,6 +36,7 @@ pub use watching::{Watching, run_top};
 /// Refuses a text that is no address: prints `refused C1`.
 pub fn refuse_address<W: CountedWrite, E: Write>(out: &mut W, errs: &mut E) -> Status
     ensures refused { result ≡ Status.Refused → Appends (W.contents out.old) (W.contents out.new) (codes "refused C1\n") }
+    ensures beginning { AppendsBeginning (W.contents out.old) (W.contents out.new) (codes "refused C1\n") }
     ensures no_errors { result ≡ Status.Refused → errs.new ≡ errs.old }
     ensures never_done { result ≡ Status.Done → ⊥ }
     ensures never_misused { result ≡ Status.Misused → ⊥ }

@@ -1,10 +1,11 @@
 //! The command `rules`: the rules of a running switch (docs/COMMANDS.md, "rules").
 
-ghost use Rattle.std.specs.Prelude.{◌≡◌, ◌⊎◌, IfOk, Some, codes};
+ghost use Rattle.std.specs.Prelude.{◌≡◌, ◌⊎◌, IfOk, codes};
 ghost use Rattle.std.specs.Io.KnownBytes.{Appends};
 ghost use Rattle.command_line.specs.ControlAddress.{IsNoControlAddress};
 ghost use Rattle.command_streams.specs.Endings.{EndsByCause};
-ghost use Rattle.command_operating.specs.Showing.{EndsInRulesFailure, IsRulesOf, RulesFail, WritesRules};
+ghost use Rattle.command_operating.specs.Printing.{EndsInPrintFailure, PrintFails, PrintsRules};
+ghost use Rattle.command_operating.specs.Showing.{IsRulesOf, WritesRules};
 ghost use Rattle.control_client.specs.Wire.{peer_of};
 
 use crate::reaching::client_of;
@@ -53,9 +54,9 @@ pub fn run_rules<R: Net + Clock, W: CountedWrite, E: Write>(
     ensures no_errors { (result ≡ Status.Done) ⊎ (result ≡ Status.Refused) → errs.new ≡ errs.old }
     ensures never_misused { result ≡ Status.Misused → ⊥ }
     ensures failed { result ≡ Status.Failed
-        → EndsInRulesFailure (Some control.now) (W.contents out.old) (W.contents out.new) (E.contents errs.old) (E.contents errs.new) }
+        → EndsInPrintFailure (PrintsRules control.now) control.now (W.contents out.old) (W.contents out.new) (E.contents errs.old) (E.contents errs.new) }
     ensures device_failed { EndsByCause
-        (RulesFail (Some control.now) (W.contents out.old) (W.contents out.new) (E.contents errs.old) (E.contents errs.new)) result
+        (PrintFails (PrintsRules control.now) control.now (W.contents out.old) (W.contents out.new) (E.contents errs.old) (E.contents errs.new)) result
         (W.failures out.old) (W.failures out.new) }
 {
     let Some(address) = ControlAddress::from_text(control) else {

@@ -3,6 +3,7 @@
 ghost use Rattle.std.specs.Prelude.{◌≡◌, ◌≢◌, ◌≤◌, ◌⊎◌, ◌++◌, IfErr, IfOk, OnOk, Some, codes};
 ghost use Rattle.std.specs.Io.KnownBytes.{Appends};
 ghost use Rattle.command_line.specs.ControlAddress.{IsNoControlAddress};
+ghost use Rattle.command_line.specs.Ending.{AppendsBeginning};
 ghost use Rattle.control_client.specs.Wire.{peer_of};
 ghost use Rattle.control_counters.specs.Reading.{AreCountersOf, IsKnown};
 ghost use Rattle.control_counters.specs.Watching.{Watches};
@@ -10,7 +11,7 @@ ghost use Rattle.counter_text.specs.Screen.{screen_text};
 ghost use Rattle.command_streams.specs.Endings.{EndsByCause};
 ghost use Rattle.command_streams.specs.Failures.{OutputFails};
 ghost use Rattle.command_operating.specs.Measured.{EndsInTopFailure, TopFails, WritesScreens, WritesTop, clear_text};
-ghost use Rattle.command_operating.specs.body.Screens.{Shows, ShowsFewer, ShowsMore};
+ghost use Rattle.command_operating.specs.body.Screens.{BeginsMore, BeginsScreens, Shows, ShowsFewer, ShowsMore};
 
 use crate::reaching::client_of;
 use crate::refuse_address;
@@ -89,6 +90,8 @@ fn print_screen<W: CountedWrite>(
     ensures printed { OnOk result (Appends (W.contents out.old) (W.contents out.new)
         (clear_text clears ++ screen_text readings.entry.0.now readings.entry.1.now millis)) }
     ensures unwritten { IfErr result (λ failure. failure ≢ Failure.WriteFailed → out.new ≡ out.old) }
+    ensures beginning { AppendsBeginning (W.contents out.old) (W.contents out.new)
+        (clear_text clears ++ screen_text readings.entry.0.now readings.entry.1.now millis) }
     ensures device_failed { OutputFails result (W.failures out.old) (W.failures out.new) }
 {
     let (earlier, later) = readings;
@@ -110,6 +113,8 @@ fn next_screen<R: Clock, D: Wire + Drop, W: CountedWrite>(
 ) -> Result<Reading, Failure>
     ensures shown { IfOk result (λ later. ShowsMore watching.entry.clears earlier.entry.0 client.old client.new (W.contents out.old) (W.contents out.new) later.counters) }
     ensures unwritten { IfErr result (λ failure. failure ≢ Failure.WriteFailed → out.new ≡ out.old) }
+    ensures begun { IfErr result (λ failure. failure ≡ Failure.WriteFailed
+        → BeginsMore watching.entry.clears earlier.entry.0 client.old client.new (W.contents out.old) (W.contents out.new)) }
     ensures device_failed { OutputFails result (W.failures out.old) (W.failures out.new) }
 {
     let (earlier, begun) = earlier;
@@ -137,6 +142,8 @@ fn print_screens<R: Clock, D: Wire + Drop, W: CountedWrite>(
     ensures shown { OnOk result (Shows watching.entry.clears watching.entry.count client.old client.new (W.contents out.old) (W.contents out.new)) }
     ensures fewer { IfErr result (λ failure. failure ≢ Failure.WriteFailed
         → ShowsFewer watching.entry.clears watching.entry.count client.old.switch (W.contents out.old) (W.contents out.new)) }
+    ensures begun { IfErr result (λ failure. failure ≡ Failure.WriteFailed
+        → BeginsScreens watching.entry.clears watching.entry.count client.old.switch (W.contents out.old) (W.contents out.new)) }
     ensures device_failed { OutputFails result (W.failures out.old) (W.failures out.new) }
 {
     let mut earlier = reading(rt, client, None)?;
@@ -159,6 +166,8 @@ fn print_top<R: Net + Clock, W: CountedWrite>(
         (W.contents out.old) (W.contents out.new)) }
     ensures fewer { IfErr result (λ failure. failure ≢ Failure.WriteFailed
         → ShowsFewer watching.entry.clears watching.entry.count (peer_of reach.entry.address) (W.contents out.old) (W.contents out.new)) }
+    ensures begun { IfErr result (λ failure. failure ≡ Failure.WriteFailed
+        → BeginsScreens watching.entry.clears watching.entry.count (peer_of reach.entry.address) (W.contents out.old) (W.contents out.new)) }
     ensures device_failed { OutputFails result (W.failures out.old) (W.failures out.new) }
 {
     let mut client = client_of(rt, alloc, reach)?;

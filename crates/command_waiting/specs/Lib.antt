@@ -29,6 +29,7 @@ pub use Rattle.counter_text.specs.Sockets
 pub use Rattle.command_operating.specs.Draining
 pub use Rattle.command_operating.specs.Measured
 pub use Rattle.command_operating.specs.Opening
+pub use Rattle.command_operating.specs.Printing
 pub use Rattle.command_operating.specs.Reported
 pub use Rattle.command_operating.specs.Showing
 pub use Rattle.command_operating.specs.Telling

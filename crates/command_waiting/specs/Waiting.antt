@@ -16,6 +16,7 @@ use Rattle.command_flood.specs.Flood.{WritesFlood}
 use Rattle.command_operating.specs.Draining.{RefusesDrain, WritesDrain}
 use Rattle.command_operating.specs.Measured.{EndsInTopFailure, IsNoFront, WritesMetrics, WritesTop}
 use Rattle.command_operating.specs.Opening.{IsOpening, RefusesRules}
+use Rattle.command_operating.specs.Printing.{EndsInPrintFailure, PrintsDrain, PrintsRules}
 use Rattle.command_waiting.specs.Serving.{IsServeTold}
 use Rattle.command_operating.specs.Showing.{EndsInRulesFailure, RefusesLoad, WritesLoad, WritesRules}
 use Rattle.command_operating.specs.Telling.{EndsInTellFailure, IsToldRefusal, WritesReplies}
@@ -101,11 +102,12 @@ EndsInWaitingFailure terminal (serve front control workers file logs receive buf
     EndsInServeFailure front control file before after told_before told_after
 EndsInWaitingFailure terminal (tell control timeout all lines) input before after told_before told_after =
     EndsInTellFailure control all lines input before after told_before told_after
-EndsInWaitingFailure terminal (rules control timeout) input before after told_before told_after = EndsInRulesFailure (Some control) before after told_before told_after
+EndsInWaitingFailure terminal (rules control timeout) input before after told_before told_after =
+    EndsInPrintFailure (PrintsRules control) control before after told_before told_after
 EndsInWaitingFailure terminal (load control timeout file only_check only_diff) input before after told_before told_after =
     EndsInRulesFailure control before after told_before told_after
 EndsInWaitingFailure terminal (drain control timeout key member) input before after told_before told_after =
-    EndsInRulesFailure (Some control) before after told_before told_after
+    EndsInPrintFailure (PrintsDrain control key member) control before after told_before told_after
 EndsInWaitingFailure terminal (metrics control front timeout) input before after told_before told_after =
     EndsInRulesFailure (Some control) before after told_before told_after
 EndsInWaitingFailure terminal (top control interval count timeout) input before after told_before told_after =

@@ -4,8 +4,9 @@ use Rattle.command_line.specs.declared.ending.Failure.TheVariants.{WriteFailed}
 use Rattle.command_streams.proofs.OutputLemmas.{fails_alike}
 use Rattle.control_counters.specs.declared.reading.Reading.{Reading}
 use Rattle.control_counters.proofs.WatchLemmas.{watches_weaker}
-use Rattle.command_operating.specs.body.Screens.{Shows, ShowsFewer}
+use Rattle.command_operating.specs.body.Screens.{BeginsScreens, Shows, ShowsFewer}
 use Rattle.command_operating.proofs.MeasuringLemmas.{if_err, none_shown, one_shown, shows, shows_fewer}
+use Rattle.command_operating.proofs.ScreenLemmas.{screens_begun}
 use Rattle.command_operating.proofs.watching.print_screens.Goals as goal
 
 pub loop-screen-init : goal.loop-screen-init
@@ -27,6 +28,17 @@ returns-in_err-later-clause-fewer g c =
     rw (c.in_err-later.ensures.unwritten other)
     (shows_fewer clears c.args.client.now out c.args.watching.count c.loop-screen._screen c.loop-screen.client (g.W.CountedWrite.contents c.loop-screen.out) c.loop-screen.earlier.counters
     c.loop-screen-test.true c.loop-screen.invariant.0))
+
+pub returns-in_err-later-clause-begun : goal.returns-in_err-later-clause-begun
+returns-in_err-later-clause-begun g c =
+    let clears = c.args.watching.clears in
+    let out = g.W.CountedWrite.contents c.args.out.now in
+    if_err c.from_residual-in_err-later.result c.in_err-later.field-0.0
+    (λ (f : Failure). f ≡ WriteFailed → BeginsScreens clears c.args.watching.count c.args.client.now.switch out (g.W.CountedWrite.contents c.next_screen.new.out))
+    c.from_residual-in_err-later.ensures.1
+    (λ is.
+    screens_begun clears c.args.client.now c.loop-screen.client c.next_screen.new.client out (g.W.CountedWrite.contents c.loop-screen.out) (g.W.CountedWrite.contents c.next_screen.new.out)
+    c.loop-screen._screen c.args.watching.count _ c.loop-screen-test.true c.loop-screen.invariant.0 (c.in_err-later.ensures.begun is))
 
 pub loop-screen-preserved : goal.loop-screen-preserved
 loop-screen-preserved g c = (
