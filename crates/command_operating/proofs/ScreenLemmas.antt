@@ -32,8 +32,7 @@ pub screens_begun : (clears : Bool) (first mid then : ClientValue) (out out' out
 screens_begun clears first mid then out out' out'' count all last fewer shown more =
     begins_after (λ start end. (next : Counters) × ShowsMore clears last mid then start end next)
     (λ start end. (n : ℕ) × (n ≤ all) × WritesScreens first.switch clears n start end) out out' out'' shown.text shown.written
-    (λ whole one.
-    (
+    (λ whole one. (
       count + 1,
       omega (arith, fewer),
       writes_screens first then first.switch clears (count + 1) out whole refl

@@ -10,7 +10,7 @@ pub returns-in_err-print_screen-clause-begun : goal.returns-in_err-print_screen-
 returns-in_err-print_screen-clause-begun g c =
     if_err c.from_residual-in_err-print_screen.result c.in_err-print_screen.field-0.0
     (λ (f : Failure). f ≡ WriteFailed
-        → BeginsMore c.args.watching.clears c.args.earlier.0 c.args.client.now c.reading.new.client (g.W.CountedWrite.contents c.args.out.now) (g.W.CountedWrite.contents c.print_screen.new.out))
+    → BeginsMore c.args.watching.clears c.args.earlier.0 c.args.client.now c.reading.new.client (g.W.CountedWrite.contents c.args.out.now) (g.W.CountedWrite.contents c.print_screen.new.out))
     c.from_residual-in_err-print_screen.ensures.1
     (λ is.
     screen_begun c.args.watching.clears c.args.earlier.0 c.args.client.now c.reading.new.client (g.W.CountedWrite.contents c.args.out.now) (g.W.CountedWrite.contents c.print_screen.new.out)
