@@ -1,5 +1,5 @@
 -- Screens of `top` of which a beginning was printed.
-use Rattle.std.proofs.Common.{◌≡◌, ◌<◌, ◌≤◌, ◌+◌, ◌++◌, Bool, List, Option, Some, arith, codes, inl, inr, refl, ℕ}
+use Rattle.std.proofs.Common.{◌<◌, ◌≤◌, ◌+◌, ◌++◌, Bool, List, Option, Some, arith, codes, inl, inr, refl, ℕ}
 use Rattle.std.specs.Borrow.{Bor}
 use Rattle.std.specs.Io.KnownBytes.{Appends}
 use Rattle.clap.specs.Words.{Text}
@@ -7,7 +7,6 @@ use Rattle.command_line.specs.ControlAddress.{IsNoControlAddress, SpellsControlA
 use Rattle.command_line.specs.Ending.{AppendsBeginning}
 use Rattle.command_line.specs.declared.control_address.ControlAddress.{ControlAddress}
 use Rattle.control_client.specs.Wire.{peer_of}
-use Rattle.control_client.specs.declared.device.Peer.{Peer}
 use Rattle.control_counters.specs.Reading.{AreCountersOf, IsKnown}
 use Rattle.control_counters.specs.Watching.{Watches}
 use Rattle.control_rules.specs.History.{ClientValue}
