@@ -1,6 +1,6 @@
 //! The command `tell`: control lines to a running switch (docs/COMMANDS.md, "tell").
 
-ghost use Rattle.std.specs.Prelude.{◌≡◌, ◌≢◌, ◌⊎◌, IfErr, IfOk, Some, false, map, string_bytes};
+ghost use Rattle.std.specs.Prelude.{◌≡◌, ◌≢◌, ◌⊎◌, IfErr, IfOk, Some, [], false, map, string_bytes};
 ghost use Rattle.std.specs.List.{list_any};
 ghost use Rattle.command_line.specs.ControlAddress.{IsNoControlAddress};
 ghost use Rattle.command_streams.specs.Endings.{EndsByOneCause};
@@ -157,6 +157,7 @@ fn tell_words_or_input<R: Net + Clock, I: Input, W: CountedWrite, E: Write>(
         (W.contents out.old) (W.contents out.new) (E.contents errs.old) (E.contents errs.new)) }
     ensures device_failed { OutputFails result (W.failures out.old) (W.failures out.new) }
     ensures input_failed { InputFails result (I.state input.old).failures (I.state input.new).failures }
+    ensures input_kept { map (λ word. word.now) words.now ≢ [] → input.new ≡ input.old }
 {
     if !words.is_empty() {
         return tell_words(rt, alloc, way, words, out, errs);
@@ -168,7 +169,7 @@ fn tell_words_or_input<R: Net + Clock, I: Input, W: CountedWrite, E: Write>(
 }
 
 /// Runs `tell` with the text of the switch's address, the seconds for a reply, and whether all lines are one change. The lines are
-/// those of the words, or those of the input if there are no words.
+/// those of the words, or those of the input if there are no words. Words leave the input unread.
 pub fn run_tell<R: Net + Clock, I: Input, W: CountedWrite, E: Write>(
     rt: &R,
     alloc: Global,
@@ -192,6 +193,7 @@ pub fn run_tell<R: Net + Clock, I: Input, W: CountedWrite, E: Write>(
     ensures device_failed { EndsByOneCause (TellFails switch.entry.0.now switch.entry.2 (map (λ word. word.now) words.now) (I.state input.old).coming
         (W.contents out.old) (W.contents out.new) (E.contents errs.old) (E.contents errs.new)) result
         (I.state input.old).failures (I.state input.new).failures (W.failures out.old) (W.failures out.new) }
+    ensures input_kept { map (λ word. word.now) words.now ≢ [] → input.new ≡ input.old }
 {
     let (control, seconds, all) = switch;
     let Some(address) = ControlAddress::from_text(control) else {
