@@ -5,3 +5,4 @@ mod OpeningLemmas
 mod ReportLemmas
 mod PrintingLemmas
 mod ScreenLemmas
+pub mod CauseLemmas

@@ -1,6 +1,6 @@
 -- What the counters that were read make of `metrics` and `top`.
 use Rattle.std.proofs.Common.{◌≡◌, ◌≢◌, ◌∙◌, ◌<◌, ◌+◌, ◌⊎◌, ◌++◌, Bool, List, None, Option, Some, [], ap, append-nil, append_assoc, inl, inr, refl, subst, sym, ℕ}
-use Rattle.std.specs.Prelude.{Err, IfErr, IsErrAnd, Ok, OnOk, Result}
+use Rattle.std.specs.Prelude.{Err, IfErr, IsErrAnd, Ok, OnOk, Result, option_map}
 use Rattle.std.specs.Borrow.{Bor}
 use Rattle.std.specs.Io.KnownBytes.{Appends}
 use Rattle.clap.specs.Words.{Text}
@@ -8,9 +8,16 @@ use Rattle.ipv4_fields.specs.Endpoint.{IsEndpoint, endpoint_text}
 use Rattle.ipv4_fields.specs.declared.endpoint.Endpoint.{Endpoint}
 use Rattle.command_line.specs.ControlAddress.{SpellsControlAddress}
 use Rattle.command_line.specs.Ending.{AppendsBeginning, line_of}
+use Rattle.command_line.specs.Input.{IsInput}
+use Rattle.command_operating.specs.Files.{first_bytes}
 use Rattle.command_line.specs.declared.control_address.ControlAddress.{ControlAddress}
 use Rattle.command_line.specs.declared.ending.Failure.{Failure}
-use Rattle.command_line.specs.declared.ending.Failure.TheVariants.{WriteFailed}
+use Rattle.command_line.specs.declared.ending.Failure.TheVariants.{BindFailed, NoAnswer, OutOfMemory, PollFailed, ReadFailed, RulesChanged, SpawnFailed, WriteFailed}
+use Rattle.command_line.specs.declared.ending.Status.{Status}
+use Rattle.command_line.specs.declared.ending.Status.TheVariants.{Failed}
+use Rattle.command_streams.specs.Failures.{FailuresValue, InputFails, OutputFails}
+use Rattle.command_streams.proofs.FailureLemmas.{both_causes}
+use Rattle.command_streams.proofs.OutputLemmas.{ends_once}
 use Rattle.control_client.specs.Exchange.{AreExchanged, Exchange}
 use Rattle.control_client.specs.Wire.{peer_of}
 use Rattle.control_client.specs.declared.device.Peer.{Peer}
@@ -21,11 +28,11 @@ use Rattle.control_counters.specs.Watching.{Watches}
 use Rattle.counter_text.specs.Screen.{screen_text}
 use Rattle.counter_text.specs.declared.counters.Counters.{Counters}
 use Rattle.counter_text.specs.declared.counters.FrontDrops.{FrontDrops}
-use Rattle.command_operating.specs.Measured.{AreFrontDrops, AreScreens, PrintsTop, TopFails, WatchesOf, WritesMetrics, WritesScreens, WritesTop, clear_text, first_reading, one_more}
+use Rattle.command_operating.specs.Measured.{AreFrontDrops, AreScreens, EndsByCauseOrTable, PrintsTop, ShowsNoDrops, TopFails, WatchesOf, WritesMetrics, WritesScreens, WritesTop, clear_text, first_reading, one_more}
 use Rattle.command_operating.specs.Printing.{Begins}
 use Rattle.command_operating.specs.Reported.{IsTold, told_alone}
 use Rattle.control_counters.proofs.WatchLemmas.{watches_then, watches_weaker}
-use Rattle.command_operating.specs.body.Front.{IsFrontOf, IsGivenFront, PrintsMetrics}
+use Rattle.command_operating.specs.body.Front.{FailsByTable, IsDropless, IsFrontOf, IsGivenFront, PrintsMetrics}
 use Rattle.command_operating.specs.body.Screens.{Shows, ShowsFewer, ShowsMore}
 
 pub watched : (before after : ClientValue) (switch : Peer) (Holds : History → List Exchange → Type 0) → before.switch ≡ switch → Watches before after Holds → WatchesOf switch Holds
@@ -149,3 +156,73 @@ module _ (control : Text) (clears : Bool) (count : ℕ) (before after told_befor
           → (after ≡ before) ⊎ ((shown : ℕ) × (shown < count) × WritesTop control clears shown before after)
       at_address (inl same) = inl same
       at_address (inr (shown, fewer, written)) = inr (shown, fewer, record { address = address; is_address = spells; written = written })
+
+-- ---- the kernel's table of sockets
+
+-- all of a file was read
+pub whole_known : (known : Option (List ℕ)) (bytes : List ℕ) → IsInput (option_map (first_bytes None) known) bytes → IsInput known bytes
+whole_known None bytes is = is
+whole_known (Some all) bytes is = is
+
+pub never_read : {A : Type 0} (result : Result A Failure) → IfErr result (λ failure. failure ≡ WriteFailed) → IfErr result (λ failure. failure ≢ ReadFailed)
+never_read (Ok value) is = tt
+never_read (Err failure) is = λ same. cc
+
+-- no read failed
+pub input_kept : {A : Type 0} (result : Result A Failure) (before after : ℕ) → IfErr result (λ failure. failure ≢ ReadFailed) → after ≡ before → InputFails result before after
+input_kept (Ok value) before after other kept = kept
+input_kept (Err ReadFailed) before after other kept = absurd (other refl)
+input_kept (Err WriteFailed) before after other kept = kept
+input_kept (Err OutOfMemory) before after other kept = kept
+input_kept (Err SpawnFailed) before after other kept = kept
+input_kept (Err BindFailed) before after other kept = kept
+input_kept (Err PollFailed) before after other kept = kept
+input_kept (Err NoAnswer) before after other kept = kept
+input_kept (Err RulesChanged) before after other kept = kept
+
+module _ (known : Option (List ℕ)) (front : Option Endpoint) (before after : ℕ) where
+  -- the table was not read, or nothing was to be read of it
+  pub table_unread : {A : Type 0} (result : Result A Failure) → IfErr result (λ failure. failure ≢ ReadFailed) → after ≡ before → FailsByTable result known front before after
+  table_unread result other kept = inl (input_kept result before after other kept)
+
+  -- the table was read, and something else failed or nothing
+  pub table_then : {A B : Type 0} (got : A) (result : Result B Failure) → FailsByTable {A = A} (Ok got) known front before after
+      → IfErr result (λ failure. failure ≢ ReadFailed) → FailsByTable result known front before after
+  table_then got result (inl kept) other = inl (input_kept result before after other kept)
+  table_then got result (inr (is, dropless, kept)) other = absurd (cc)
+
+-- an error is passed on
+pub table_passed : {A B : Type 0} (known : Option (List ℕ)) (front : Option Endpoint) (before after : ℕ) (result : Result B Failure) (failure : Failure)
+    → IsErrAnd result (λ given. given ≡ failure) → FailsByTable {A = A} (Err failure) known front before after → FailsByTable result known front before after
+table_passed known front before after (Ok value) failure is fails = absurd is
+table_passed {A = A} {B = B} known front before after (Err given) failure is (inl input) =
+    inl (subst (λ (f : Failure). InputFails {A = B} (Err f) before after) (sym is) (alike failure input))
+  where
+    alike : (f : Failure) → InputFails {A = A} (Err f) before after → InputFails {A = B} (Err f) before after
+    alike ReadFailed input = input
+    alike WriteFailed input = input
+    alike OutOfMemory input = input
+    alike SpawnFailed input = input
+    alike BindFailed input = input
+    alike PollFailed input = input
+    alike NoAnswer input = input
+    alike RulesChanged input = input
+table_passed {A = A} {B = B} known front before after (Err given) failure is (inr (unread, dropless, kept)) =
+    let same : failure ≡ ReadFailed = cc in inr (ap (λ (f : Failure). Err f) (is ∙ same), dropless, kept)
+
+-- the failure is reported
+shows_none : (known : Option (List ℕ)) (front : Option Text) (endpoint : Option Endpoint) → IsGivenFront front endpoint → IsDropless known endpoint → ShowsNoDrops known front
+shows_none known None None given dropless = absurd dropless
+shows_none known None (Some e) given dropless = absurd given
+shows_none known (Some text) None given dropless = absurd given
+shows_none known (Some text) (Some e) given dropless = (e, given.0, given.1, dropless)
+
+pub ends_by_table : (Reports : Failure → Type 0) (known : Option (List ℕ)) (front : Option Text) (endpoint : Option Endpoint) (status : Status) (failure : Failure)
+    (read read' : ℕ) (written written' : FailuresValue) → IsGivenFront front endpoint → status ≡ Failed → Reports failure
+    → FailsByTable {A = Unit {0}} (Err failure) known endpoint read read' → OutputFails {A = Unit {0}} (Err failure) written written'
+    → EndsByCauseOrTable Reports known front status read read' written written'
+ends_by_table Reports known front endpoint status failure read read' written written' given is reports (inl input) output =
+    inl (ends_once Reports written written' status failure read read' is reports (both_causes (Unit {0}) Status failure read read' written written' input output))
+ends_by_table Reports known front endpoint status failure read read' written written' given is reports (inr (unread, dropless, kept)) output =
+    let same : failure ≡ ReadFailed = cc in
+    inr (is, subst Reports same reports, shows_none known front endpoint given dropless, kept, subst (λ (f : Failure). OutputFails {A = Unit {0}} (Err f) written written') same output)

@@ -1,11 +1,9 @@
 -- What is read of a rules file is refused, or makes a configuration, as the whole file does.
-use Rattle.std.proofs.Common.{◌≡◌, ◌∙◌, ◌<◌, ◌≤◌, ◌⊎◌, List, None, Option, Some, ap, arith, inl, inr, length, refl, subst, take, ℕ}
+use Rattle.std.proofs.Common.{◌≡◌, ◌∙◌, ◌<◌, ◌≤◌, ◌⊎◌, Err, List, None, Ok, Option, Result, Some, ap, arith, inl, inr, length, refl, subst, take, ℕ}
 use Rattle.std.proofs.lemmas.Bool.{cases_lt}
 use Rattle.std.proofs.lemmas.List.{length-take-le, take_all}
 use Rattle.std.specs.Io.KnownBytes.{Appends}
-use Rattle.std.specs.Io.Take.{take_inner, take_limit, take_remaining}
-use Rattle.std.specs.declared.io.traits.Take.{Take}
-use Rattle.std.specs.Prelude.{option_map}
+use Rattle.std.specs.Prelude.{IfOk, option_map}
 use Rattle.command_line.specs.Ending.{AppendsBeginning, line_of}
 use Rattle.command_line.specs.Input.{IsInput}
 use Rattle.command_line.specs.declared.ending.Failure.{Failure}
@@ -90,13 +88,24 @@ refused_of (Some xs) before after bytes read line why refused written = record {
 pub charge_within : (text : List ℕ) (config : List Group) → IsConfigOf text config → charge_of config ≤ CHARGE_LIMIT
 charge_within text config made = let same = charged_alike made.0 config made.2 in let within = made.1.charge in omega (arith, same, within)
 
--- what is taken of an input
-pub read_of : {R : Type 0} (remaining : R → Option (List ℕ)) (taken : Take R) (input : R) → take_inner taken ≡ input → BLOCK_LIMIT < take_limit taken
-    → (bytes : List ℕ) → IsInput (take_remaining remaining taken) bytes → IsReadOf (remaining input) bytes
-read_of {R} remaining taken input same enough bytes read = record {
-  most = take_limit taken;
-  enough = enough;
-  is_read = subst (λ (inner : R). IsInput (option_map (take (take_limit taken)) (remaining inner)) bytes) same read;
+-- the first bytes of a file, more of them than a rules file may have if it has more
+pub read_of : {X : Type 0} (items : X → List ℕ) (known : Option (List ℕ)) (most : ℕ) → BLOCK_LIMIT < most → (result : Result X Failure)
+    → IfOk result (λ bytes. IsInput (option_map (take most) known) (items bytes)) → IfOk result (λ bytes. IsReadOf known (items bytes))
+read_of items known most enough (Ok bytes) read = record { most = most; enough = enough; is_read = read }
+read_of items known most enough (Err failure) read = tt
+
+-- the bytes of a file are not known outside
+pub made_unknown : (known : Option (List ℕ)) (config : List Group) → IsMadeFrom known config → IsMadeFrom None config
+made_unknown known config made = record { text = made.text; is_input = tt; made = made.made }
+
+pub refuses_unknown : (known before after : Option (List ℕ)) → RefusesRules known before after → RefusesRules None before after
+refuses_unknown known before after refuses = record {
+  text = refuses.text;
+  line = refuses.line;
+  why = refuses.why;
+  is_input = tt;
+  refused = refuses.refused;
+  written = refuses.written;
 }
 
 -- ---- there is no configuration

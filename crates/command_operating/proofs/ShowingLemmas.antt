@@ -12,7 +12,7 @@ use Rattle.control_rules.specs.declared.loading.Loaded.{Loaded}
 use Rattle.command_line.specs.Ending.{AppendsBeginning, line_of}
 use Rattle.command_line.specs.declared.ending.Failure.{Failure}
 use Rattle.command_line.specs.declared.ending.Failure.TheVariants.{WriteFailed}
-use Rattle.command_streams.specs.Endings.{EndsByCause}
+use Rattle.command_streams.specs.Endings.{EndsByOneCause}
 use Rattle.command_streams.specs.Failures.{FailuresValue}
 use Rattle.control_client.specs.Exchange.{AreExchanged}
 use Rattle.control_rules.specs.History.{ClientValue, Learns}
@@ -94,11 +94,13 @@ pub fails_asked : (control : Option Text) (text : Text) (address : ControlAddres
 fails_asked control text address before after told_before told_after asked fails =
     subst (λ (c : Option Text). EndsInRulesFailure c before after told_before told_after) (sym asked.given) fails
 
-pub ends_asked : (control : Option Text) (text : Text) (address : ControlAddress) (before after told_before told_after : Option (List ℕ)) (status : Status) (failures failures' : FailuresValue)
-    → IsAsked control text address → EndsByCause (RulesFail (Some text) before after told_before told_after) status failures failures'
-    → EndsByCause (RulesFail control before after told_before told_after) status failures failures'
-ends_asked control text address before after told_before told_after status failures failures' asked ends =
-    subst (λ (c : Option Text). EndsByCause (RulesFail c before after told_before told_after) status failures failures') (sym asked.given) ends
+pub ends_asked : (control : Option Text) (text : Text) (address : ControlAddress) (before after told_before told_after : Option (List ℕ)) (status : Status)
+    (read read' : ℕ) (written written' : FailuresValue) → IsAsked control text address → read' ≡ read
+    → ((read : ℕ) → EndsByOneCause (RulesFail (Some text) before after told_before told_after) status read read written written')
+    → EndsByOneCause (RulesFail control before after told_before told_after) status read read' written written'
+ends_asked control text address before after told_before told_after status read read' written written' asked kept ends =
+    subst (λ (r : ℕ). EndsByOneCause (RulesFail control before after told_before told_after) status read r written written') (sym kept)
+    (subst (λ (c : Option Text). EndsByOneCause (RulesFail c before after told_before told_after) status read read written written') (sym asked.given) (ends read))
 
 pub no_address : (control : Option Text) → ((text : Text) → control ≡ Some text → IsNoControlAddress text) → IsNoSwitch control
 no_address None none switch is = is

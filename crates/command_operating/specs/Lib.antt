@@ -1,4 +1,5 @@
 pub mod Draining
+pub mod Files
 pub mod Measured
 pub mod Opening
 pub mod Printing

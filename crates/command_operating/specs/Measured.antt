@@ -8,7 +8,12 @@ use Rattle.ipv4_fields.specs.declared.endpoint.Endpoint.{Endpoint}
 use Rattle.command_line.specs.ControlAddress.{IsNoControlAddress, SpellsControlAddress}
 use Rattle.command_line.specs.declared.control_address.ControlAddress.{ControlAddress}
 use Rattle.command_line.specs.declared.ending.Failure.{Failure}
-use Rattle.command_line.specs.declared.ending.Failure.TheVariants.{WriteFailed}
+use Rattle.command_line.specs.declared.ending.Failure.TheVariants.{ReadFailed, WriteFailed}
+use Rattle.command_line.specs.Input.{IsInput}
+use Rattle.command_line.specs.declared.ending.Status.{Status}
+use Rattle.command_line.specs.declared.ending.Status.TheVariants.{Failed}
+use Rattle.command_streams.specs.Endings.{EndsByOneCause}
+use Rattle.command_streams.specs.Failures.{FailuresValue}
 use Rattle.control_client.specs.Exchange.{AreExchanged, Exchange}
 use Rattle.control_client.specs.Wire.{Event, peer_of}
 use Rattle.control_client.specs.declared.device.Peer.{Peer}
@@ -52,6 +57,27 @@ pub record WritesMetrics (control : Text) (front : Option Text) (before after : 
 abbrev pub IsNoFront : Option Text → Type 0
 IsNoFront None = ⊥
 IsNoFront (Some front) = (endpoint : Endpoint) → IsEndpoint endpoint → front ≢ endpoint_text endpoint
+
+-- the file that is the kernel's table of UDP sockets
+abbrev pub sockets_file : List ℕ
+sockets_file = codes "/proc/net/udp"
+
+-- a table, if it is known, has no socket at the front, or tells no sum of what was dropped there
+abbrev pub HasNoDrops : Option (List ℕ) → Endpoint → Type 0
+HasNoDrops known front = (table : List ℕ) × IsInput known table × ((n : ℕ) → AreDropsAt front table n → ⊥)
+
+-- the same of the front of a text, if one is given
+abbrev pub ShowsNoDrops : Option (List ℕ) → Option Text → Type 0
+ShowsNoDrops known None = ⊥
+ShowsNoDrops known (Some text) = (front : Endpoint) × IsEndpoint front × (text ≡ endpoint_text front) × HasNoDrops known front
+
+-- `metrics` ended by one cause as other commands do; or it reported that it could not read, since the table was read and has no drops of
+-- the front, and then no read, write or flush failed
+abbrev pub EndsByCauseOrTable :
+    (Failure → Type 0) → Option (List ℕ) → Option Text → Status → (read read' : ℕ) → (written written' : FailuresValue) → Type 0
+EndsByCauseOrTable Reports known front status read read' written written' =
+    EndsByOneCause Reports status read read' written written'
+    ⊎ ((status ≡ Failed) × Reports ReadFailed × ShowsNoDrops known front × (read' ≡ read) × (written' ≡ written))
 
 -- ---- `top`
 

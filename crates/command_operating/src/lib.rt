@@ -1,7 +1,8 @@
 //! The operator's commands: `tell`, `rules`, `load`, `drain`, `metrics` and `top` ask a running switch over its address of control, and
 //! change or show what it has (docs/COMMANDS.md).
 //!
-//! Each is a function from the command's arguments to its exit status. `opening` also reads the rules file of `serve`.
+//! Each is a function from the command's arguments to its exit status. `opening` also reads the rules file of `serve`. Files are read by
+//! `ReadFiles`, which counts their failures.
 #![tactic(auto)]
 
 ghost use Rattle.std.specs.Prelude.{◌≡◌, codes};
@@ -11,6 +12,7 @@ ghost use Rattle.command_line.specs.declared.ending.Failure.TheVariants as failu
 ghost use Rattle.command_streams.specs.Endings.{EndsByCause};
 
 mod draining;
+mod files;
 mod loading;
 mod measuring;
 mod printing;
@@ -25,6 +27,7 @@ mod watching;
 use command_line::Status;
 use command_streams::{CountedWrite, write_through};
 pub use draining::{Draining, run_drain};
+pub use files::{ReadFiles, SystemFiles};
 pub use loading::{Loading, run_load};
 pub use measuring::run_metrics;
 pub use rules_file::opening;

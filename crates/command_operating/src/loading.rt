@@ -9,14 +9,15 @@ ghost use Rattle.command_explain.specs.Meaning.{file_line};
 ghost use Rattle.command_line.specs.ControlAddress.{SpellsControlAddress};
 ghost use Rattle.command_line.specs.Ending.{AppendsBeginning};
 ghost use Rattle.command_line.specs.declared.ending.Failure.TheVariants as failure;
-ghost use Rattle.command_streams.specs.Endings.{EndsByCause};
+ghost use Rattle.command_streams.specs.Endings.{EndsByOneCause};
 ghost use Rattle.command_streams.specs.Failures.{OutputFails};
 ghost use Rattle.command_operating.specs.Opening.{RefusesRules};
 ghost use Rattle.command_operating.specs.Showing.{AreChangesTo, EndsInRulesFailure, IsNoSwitch, LoadsInto, RefusesLoad, RulesFail, ShowsFileRefusal, WritesLoad, loaded_line, loaded_status, measures_line, version_line};
 ghost use Rattle.command_operating.specs.body.Asked.{IsAsked};
 
+use crate::files::ReadFiles;
 use crate::printing::print_line;
-use crate::reaching::client_of;
+use crate::reaching::{ask_failure, client_of};
 use crate::refuse_address;
 use crate::refused::write_flushed;
 use crate::reporting::reported;
@@ -30,7 +31,6 @@ use control_rules::{AskFailure, Client, Loaded, differences, load};
 use member_group::Config;
 use std::alloc::Global;
 use std::cell::Cell;
-use std::fs::Files;
 use std::io::Write;
 use std::net::Net;
 use std::time::Clock;
@@ -91,8 +91,13 @@ fn print_differences<D: Wire + Drop, W: CountedWrite>(
         × Appends (W.contents out.old) (W.contents out.new) changes) }
     ensures unwritten { IfErr result (λ failure. failure ≢ Failure.WriteFailed → out.new ≡ out.old) }
     ensures device_failed { OutputFails result (W.failures out.old) (W.failures out.new) }
+    ensures never_unread { IfErr result (λ failure. failure ≢ Failure.ReadFailed) }
 {
-    let Some(changes) = differences(client, config)? else {
+    let changes = match differences(client, config) {
+        Ok(changes) => changes,
+        Err(failure) => return Err(ask_failure(failure)),
+    };
+    let Some(changes) = changes else {
         return Err(Failure::RulesChanged);
     };
     write_through(&changes, out)?;
@@ -112,8 +117,12 @@ fn print_changes<R: Net + Clock, W: CountedWrite>(
         × Appends (W.contents out.old) (W.contents out.new) changes) }
     ensures unwritten { IfErr result (λ failure. failure ≢ Failure.WriteFailed → out.new ≡ out.old) }
     ensures device_failed { OutputFails result (W.failures out.old) (W.failures out.new) }
+    ensures never_unread { IfErr result (λ failure. failure ≢ Failure.ReadFailed) }
 {
-    let mut client = client_of(rt, alloc, reach)?;
+    let mut client = match client_of(rt, alloc, reach) {
+        Ok(client) => client,
+        Err(failure) => return Err(ask_failure(failure)),
+    };
     print_differences(&mut client, config, out)
 }
 
@@ -132,9 +141,9 @@ fn show_changes<R: Net + Clock, W: CountedWrite, E: Write>(
     ensures no_errors { result ≡ Status.Done → errs.new ≡ errs.old }
     ensures failed { result ≡ Status.Failed
         → EndsInRulesFailure (Some asked.entry.0.now) (W.contents out.old) (W.contents out.new) (E.contents errs.old) (E.contents errs.new) }
-    ensures device_failed { EndsByCause
+    ensures device_failed { (read : ℕ) → EndsByOneCause
         (RulesFail (Some asked.entry.0.now) (W.contents out.old) (W.contents out.new) (E.contents errs.old) (E.contents errs.new)) result
-        (W.failures out.old) (W.failures out.new) }
+        read read (W.failures out.old) (W.failures out.new) }
 {
     let (control, reach) = asked;
     let ended = print_changes(rt, alloc, reach, config, out);
@@ -148,6 +157,7 @@ fn print_loaded<W: CountedWrite>(loaded: &Loaded, out: &mut W) -> Result<Status,
     ensures printed { OnOk result (Appends (W.contents out.old) (W.contents out.new) (loaded_line loaded.now ++ codes "\n")) }
     ensures unwritten { IfErr result (λ failure. failure ≢ Failure.WriteFailed → out.new ≡ out.old) }
     ensures device_failed { OutputFails result (W.failures out.old) (W.failures out.new) }
+    ensures never_unread { IfErr result (λ failure. failure ≢ Failure.ReadFailed) }
 {
     match loaded {
         Loaded::Unchanged { version } => {
@@ -224,9 +234,13 @@ fn print_replaced<R: Net + Clock, W: CountedWrite, E: Write>(
     ensures unshown { OnErr result (errs.new ≡ errs.old) }
     ensures unwritten { IfErr result (λ failure. failure ≢ Failure.WriteFailed → out.new ≡ out.old) }
     ensures device_failed { OutputFails result (W.failures out.old) (W.failures out.new) }
+    ensures never_unread { IfErr result (λ failure. failure ≢ Failure.ReadFailed) }
 {
     let (name, file) = named;
-    let loaded = replaced(rt, alloc, reach, file)?;
+    let loaded = match replaced(rt, alloc, reach, file) {
+        Ok(loaded) => loaded,
+        Err(failure) => return Err(ask_failure(failure)),
+    };
     let status = print_loaded(&loaded, out)?;
     match loaded {
         Loaded::Refused(reply) => {
@@ -254,9 +268,9 @@ fn replace<R: Net + Clock, W: CountedWrite, E: Write>(
     ensures never_misused { result ≡ Status.Misused → ⊥ }
     ensures failed { result ≡ Status.Failed
         → EndsInRulesFailure (Some asked.entry.0.now) (W.contents out.old) (W.contents out.new) (E.contents errs.old) (E.contents errs.new) }
-    ensures device_failed { EndsByCause
+    ensures device_failed { (read : ℕ) → EndsByOneCause
         (RulesFail (Some asked.entry.0.now) (W.contents out.old) (W.contents out.new) (E.contents errs.old) (E.contents errs.new)) result
-        (W.failures out.old) (W.failures out.new) }
+        read read (W.failures out.old) (W.failures out.new) }
 {
     let (control, reach) = asked;
     let ended = print_replaced(rt, alloc, reach, named, out, errs);
@@ -264,10 +278,11 @@ fn replace<R: Net + Clock, W: CountedWrite, E: Write>(
 }
 
 // Prints the measures of a file, and asks no switch.
-fn check_file<R: Files, W: CountedWrite, E: Write>(
-    rt: &R,
+#[tactic(auto, using(crate::proofs::OpeningLemmas::refuses_unknown, crate::proofs::CauseLemmas::writes_once, crate::proofs::ShowingLemmas::fail_writing))]
+fn check_file<F: ReadFiles, W: CountedWrite, E: Write>(
     alloc: Global,
     name: &str,
+    files: &mut F,
     out: &mut W,
     errs: &mut E,
 ) -> Status
@@ -278,11 +293,11 @@ fn check_file<R: Files, W: CountedWrite, E: Write>(
     ensures never_misused { result ≡ Status.Misused → ⊥ }
     ensures failed { result ≡ Status.Failed
         → EndsInRulesFailure None (W.contents out.old) (W.contents out.new) (E.contents errs.old) (E.contents errs.new) }
-    ensures device_failed { EndsByCause
+    ensures device_failed { EndsByOneCause
         (RulesFail None (W.contents out.old) (W.contents out.new) (E.contents errs.old) (E.contents errs.new)) result
-        (W.failures out.old) (W.failures out.new) }
+        (F.failures files.old) (F.failures files.new) (W.failures out.old) (W.failures out.new) }
 {
-    let file = match open_file(rt, alloc, name, out, errs) {
+    let file = match open_file(alloc, name, files, out, errs) {
         Ok(file) => file,
         Err(status) => return status,
     };
@@ -293,10 +308,11 @@ fn check_file<R: Files, W: CountedWrite, E: Write>(
 }
 
 /// Runs `load`.
-pub fn run_load<R: Net + Clock + Files, W: CountedWrite, E: Write>(
+pub fn run_load<R: Net + Clock, F: ReadFiles, W: CountedWrite, E: Write>(
     rt: &R,
     alloc: Global,
     loading: Loading<'_>,
+    files: &mut F,
     out: &mut W,
     errs: &mut E,
 ) -> Status
@@ -308,11 +324,12 @@ pub fn run_load<R: Net + Clock + Files, W: CountedWrite, E: Write>(
     ensures never_misused { result ≡ Status.Misused → ⊥ }
     ensures failed { result ≡ Status.Failed
         → EndsInRulesFailure (option_map (λ address. address.now) loading.entry.control) (W.contents out.old) (W.contents out.new) (E.contents errs.old) (E.contents errs.new) }
-    ensures device_failed { EndsByCause (RulesFail (option_map (λ address. address.now) loading.entry.control)
-        (W.contents out.old) (W.contents out.new) (E.contents errs.old) (E.contents errs.new)) result (W.failures out.old) (W.failures out.new) }
+    ensures device_failed { EndsByOneCause (RulesFail (option_map (λ address. address.now) loading.entry.control)
+        (W.contents out.old) (W.contents out.new) (E.contents errs.old) (E.contents errs.new)) result
+        (F.failures files.old) (F.failures files.new) (W.failures out.old) (W.failures out.new) }
 {
     if loading.check {
-        return check_file(rt, alloc, loading.file, out, errs);
+        return check_file(alloc, loading.file, files, out, errs);
     }
     let Some((control, address)) = switch_of(loading.control) else {
         return refuse_address(out, errs);
@@ -323,7 +340,7 @@ pub fn run_load<R: Net + Clock + Files, W: CountedWrite, E: Write>(
         seconds: loading.timeout,
         trouble: &trouble,
     };
-    let file = match open_file(rt, alloc, loading.file, out, errs) {
+    let file = match open_file(alloc, loading.file, files, out, errs) {
         Ok(file) => file,
         Err(status) => return status,
     };

@@ -6,17 +6,16 @@ ghost use Rattle.command_line.specs.ControlAddress.{IsNoControlAddress};
 ghost use Rattle.control_client.specs.Wire.{peer_of};
 ghost use Rattle.control_counters.specs.Reading.{AreCountersOf};
 ghost use Rattle.counter_text.specs.Sockets.{AreDropsAt};
-ghost use Rattle.command_streams.specs.Endings.{EndsByCause};
 ghost use Rattle.command_streams.specs.Failures.{OutputFails};
-ghost use Rattle.command_operating.specs.Measured.{AreFrontDrops, IsNoFront, WatchesOf, WritesMetrics};
+ghost use Rattle.command_operating.specs.Measured.{AreFrontDrops, EndsByCauseOrTable, IsNoFront, WatchesOf, WritesMetrics, sockets_file};
 ghost use Rattle.command_operating.specs.Showing.{EndsInRulesFailure, RulesFail};
-ghost use Rattle.command_operating.specs.body.Front.{IsFrontOf, IsGivenFront, PrintsMetrics};
+ghost use Rattle.command_operating.specs.body.Front.{FailsByTable, IsFrontOf, IsGivenFront, PrintsMetrics};
 
-use crate::reaching::client_of;
+use crate::files::ReadFiles;
+use crate::reaching::{ask_failure, client_of};
 use crate::refuse_address;
 use crate::reporting::report;
-use crate::rules_file::open_failure;
-use command_line::{ControlAddress, Failure, Status, read_whole};
+use command_line::{ControlAddress, Failure, Status};
 use command_streams::{CountedWrite, write_through};
 use control_client::{Reach, Wire};
 use control_counters::read_counters;
@@ -25,7 +24,6 @@ use counter_text::{Counters, FrontDrops, drops_at, metrics_text};
 use ipv4_fields::Endpoint;
 use std::alloc::Global;
 use std::cell::Cell;
-use std::fs::{File, Files};
 use std::io::Write;
 use std::net::Net;
 use std::time::Clock;
@@ -59,16 +57,17 @@ fn counters_of<R: Net + Clock>(
 }
 
 // How many datagrams the kernel dropped at a front.
-fn drops_of<R: Files>(rt: &R, alloc: Global, front: Endpoint) -> Result<FrontDrops, Failure>
+fn drops_of<F: ReadFiles>(
+    files: &mut F,
+    alloc: Global,
+    front: Endpoint,
+) -> Result<FrontDrops, Failure>
     ensures front { IfOk result (λ it. it.front ≡ front) }
     ensures drops { IfOk result (λ it. (table : _) × AreDropsAt it.front table it.drops) }
     ensures no_output { IfErr result (λ failure. failure ≢ Failure.WriteFailed) }
+    ensures input_failed { FailsByTable result (F.contents files.old sockets_file) (Some front) (F.failures files.old) (F.failures files.new) }
 {
-    let input = match File::open(rt, SOCKETS) {
-        Ok(input) => input,
-        Err(error) => return Err(open_failure(&error)),
-    };
-    let table = read_whole(alloc, input)?;
+    let table = files.read(alloc, SOCKETS, None)?;
     match drops_at(alloc, &table, front)? {
         Some(drops) => Ok(FrontDrops { front, drops }),
         None => Err(Failure::ReadFailed),
@@ -76,17 +75,19 @@ fn drops_of<R: Files>(rt: &R, alloc: Global, front: Endpoint) -> Result<FrontDro
 }
 
 // The same, if a front is given.
-fn front_drops<R: Files>(
-    rt: &R,
+#[tactic(auto, using(crate::proofs::MeasuringLemmas::table_passed))]
+fn front_drops<F: ReadFiles>(
+    files: &mut F,
     alloc: Global,
     front: Option<Endpoint>,
 ) -> Result<Option<FrontDrops>, Failure>
     ensures drops { IfOk result (IsFrontOf front) }
     ensures no_output { IfErr result (λ failure. failure ≢ Failure.WriteFailed) }
+    ensures input_failed { FailsByTable result (F.contents files.old sockets_file) front (F.failures files.old) (F.failures files.new) }
 {
     match front {
         None => Ok(None),
-        Some(front) => Ok(Some(drops_of(rt, alloc, front)?)),
+        Some(front) => Ok(Some(drops_of(files, alloc, front)?)),
     }
 }
 
@@ -104,29 +105,36 @@ fn front_of(front: Option<&str>) -> Result<Option<Endpoint>, ()>
 }
 
 // Reads everything, and writes it.
-fn print_metrics<R: Net + Clock + Files, W: CountedWrite>(
+#[tactic(auto, using(crate::proofs::MeasuringLemmas::table_passed, crate::proofs::MeasuringLemmas::table_then))]
+fn print_metrics<R: Net + Clock, F: ReadFiles, W: CountedWrite>(
     rt: &R,
     alloc: Global,
     reach: Reach<'_>,
     front: Option<Endpoint>,
+    files: &mut F,
     out: &mut W,
 ) -> Result<(), Failure>
     ensures printed { OnOk result (PrintsMetrics (peer_of reach.entry.address) front (W.contents out.old) (W.contents out.new)) }
     ensures unwritten { IfErr result (λ failure. failure ≢ Failure.WriteFailed → out.new ≡ out.old) }
     ensures device_failed { OutputFails result (W.failures out.old) (W.failures out.new) }
+    ensures input_failed { FailsByTable result (F.contents files.old sockets_file) front (F.failures files.old) (F.failures files.new) }
 {
-    let counters = counters_of(rt, alloc, reach)?;
-    let drops = front_drops(rt, alloc, front)?;
+    let counters = match counters_of(rt, alloc, reach) {
+        Ok(counters) => counters,
+        Err(failure) => return Err(ask_failure(failure)),
+    };
+    let drops = front_drops(files, alloc, front)?;
     let text = metrics_text(alloc, &counters, drops)?;
     write_through(text.as_bytes(), out)
 }
 
 /// Runs `metrics` with the text of the switch's address, that of a front or none, and the seconds for a reply.
-pub fn run_metrics<R: Net + Clock + Files, W: CountedWrite, E: Write>(
+pub fn run_metrics<R: Net + Clock, F: ReadFiles, W: CountedWrite, E: Write>(
     rt: &R,
     alloc: Global,
     addresses: (&str, Option<&str>),
     seconds: u64,
+    files: &mut F,
     out: &mut W,
     errs: &mut E,
 ) -> Status
@@ -139,9 +147,10 @@ pub fn run_metrics<R: Net + Clock + Files, W: CountedWrite, E: Write>(
     ensures never_misused { result ≡ Status.Misused → ⊥ }
     ensures failed { result ≡ Status.Failed
         → EndsInRulesFailure (Some addresses.entry.0.now) (W.contents out.old) (W.contents out.new) (E.contents errs.old) (E.contents errs.new) }
-    ensures device_failed { EndsByCause
-        (RulesFail (Some addresses.entry.0.now) (W.contents out.old) (W.contents out.new) (E.contents errs.old) (E.contents errs.new)) result
-        (W.failures out.old) (W.failures out.new) }
+    ensures device_failed { EndsByCauseOrTable
+        (RulesFail (Some addresses.entry.0.now) (W.contents out.old) (W.contents out.new) (E.contents errs.old) (E.contents errs.new))
+        (F.contents files.old sockets_file) (option_map (λ text. text.now) addresses.entry.1) result
+        (F.failures files.old) (F.failures files.new) (W.failures out.old) (W.failures out.new) }
 {
     let (control, front) = addresses;
     let Some(address) = ControlAddress::from_text(control) else {
@@ -156,7 +165,7 @@ pub fn run_metrics<R: Net + Clock + Files, W: CountedWrite, E: Write>(
         seconds,
         trouble: &trouble,
     };
-    match print_metrics(rt, alloc, reach, front, out) {
+    match print_metrics(rt, alloc, reach, front, files, out) {
         Ok(()) => Status::Done,
         Err(failure) => report(alloc, failure, control, reach, errs),
     }

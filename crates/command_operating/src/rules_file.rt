@@ -8,21 +8,20 @@ ghost use Rattle.command_line.specs.Ending.{AppendsBeginning, line_of};
 ghost use Rattle.command_line.specs.declared.ending.Failure.TheVariants as failure;
 ghost use Rattle.control_line.specs.Reason.{refusal_text};
 ghost use Rattle.control_line.specs.Rules.{IsConfigOf};
-ghost use Rattle.command_streams.specs.Endings.{EndsByCause};
-ghost use Rattle.command_streams.specs.Failures.{OutputFails};
+ghost use Rattle.command_streams.specs.Endings.{EndsByCause, EndsByOneCause};
+ghost use Rattle.command_streams.specs.Failures.{InputFails, OutputFails};
 ghost use Rattle.command_operating.specs.Opening.{EndsUnread, FailsUnread, IsMadeFrom, IsOpening, RefusesRules, file_refusal_text, of_line};
 ghost use Rattle.command_operating.specs.body.Reading.{IsReadOf};
 
+use crate::files::ReadFiles;
 use command_explain::{FaultPlace, file_fault_text, line_fault_text};
-use command_line::{Failure, Status, read_whole, write_whole};
+use command_line::{Failure, Status, write_whole};
 use command_streams::{CountedWrite, write_through};
 use control_line::{BLOCK_LIMIT, Reason, Reply, RulesFault, fault_column, line_at, rules};
 use fault_code::Code;
 use member_group::Config;
 use std::alloc::{AllocError, Global};
-use std::fs::{File, Files};
-use std::io;
-use std::io::{ErrorKind, Read, Write};
+use std::io::Write;
 
 /// A rules file that was read, and the configuration that it makes.
 #[derive(Drop)]
@@ -120,102 +119,67 @@ fn refuse_file<W: CountedWrite, E: Write>(
     }
 }
 
-// Reads a rules file, and one byte more than it may have if it has more.
-#[tactic(auto, using(crate::proofs::OpeningLemmas::read_of))]
-fn read_text<I: Read + Drop>(alloc: Global, input: I) -> Result<Vec<u8>, Failure>
-    ensures text { IfOk result (λ text. IsReadOf (I.remaining input) text.items) }
+// Reads a rules file of this name, and one byte more than it may have if it has more.
+fn read_text<F: ReadFiles>(alloc: Global, name: &str, files: &mut F) -> Result<Vec<u8>, Failure>
+    ensures text { IfOk result (λ text. IsReadOf (F.contents files.old name.now) text.items) }
     ensures cause { IfErr result (λ failure. (failure ≡ Failure.ReadFailed) ⊎ (failure ≡ Failure.OutOfMemory)) }
+    ensures device_failed { InputFails result (F.failures files.old) (F.failures files.new) }
 {
-    read_whole(alloc, input.take(BLOCK_LIMIT as u64 + 1))
+    files.read(alloc, name, Some(BLOCK_LIMIT as u64 + 1))
 }
 
-// Reads a rules file of this name. If it makes no configuration, writes the cause, and returns the exit status.
-#[tactic(auto, using(crate::proofs::OpeningLemmas::made_of, crate::proofs::OpeningLemmas::refused_of, crate::proofs::OpeningLemmas::charge_within, crate::proofs::OpeningLemmas::not_read, crate::proofs::OpeningLemmas::not_written))]
-fn file_of<I: Read + Drop, W: CountedWrite, E: Write>(
+/// Opens and reads a rules file of this name. If the file makes no configuration, writes the cause, and returns the exit status.
+#[tactic(auto, using(crate::proofs::OpeningLemmas::made_of, crate::proofs::OpeningLemmas::refused_of, crate::proofs::OpeningLemmas::charge_within, crate::proofs::OpeningLemmas::not_read, crate::proofs::OpeningLemmas::not_written, crate::proofs::OpeningLemmas::fails_refusing, crate::proofs::CauseLemmas::refuses_once))]
+pub(crate) fn open_file<F: ReadFiles, W: CountedWrite, E: Write>(
     alloc: Global,
-    file: &str,
-    input: I,
+    name: &str,
+    files: &mut F,
     out: &mut W,
     errs: &mut E,
 ) -> Result<RulesFile, Status>
-    ensures made { IfOk result (λ file. IsMadeFrom (I.remaining input) file.config) }
+    ensures made { IfOk result (λ file. IsMadeFrom (F.contents files.old name.now) file.config) }
     ensures of_text { IfOk result (λ file. IsConfigOf file.text.items file.config) }
     ensures within { IfOk result (λ file. charge_of file.config ≤ CHARGE_LIMIT) }
+    ensures none_failed { OnOk result (F.failures files.new ≡ F.failures files.old) }
     ensures unwritten { OnOk result (out.new ≡ out.old) }
     ensures no_errors { OnOk result (errs.new ≡ errs.old) }
     ensures refused { IfErr result (λ status. status ≡ Status.Refused
-        → RefusesRules (I.remaining input) (W.contents out.old) (W.contents out.new)) }
+        → RefusesRules (F.contents files.old name.now) (W.contents out.old) (W.contents out.new)) }
     ensures never_done { IfErr result (λ status. status ≡ Status.Done → ⊥) }
     ensures never_misused { IfErr result (λ status. status ≡ Status.Misused → ⊥) }
     ensures failed { IfErr result (λ status. status ≡ Status.Failed
         → EndsUnread (W.contents out.old) (W.contents out.new) (E.contents errs.old) (E.contents errs.new)) }
     ensures device_failed { IfErr result (λ status.
-        EndsByCause (FailsUnread (W.contents out.old) (W.contents out.new) (E.contents errs.old) (E.contents errs.new)) status
-        (W.failures out.old) (W.failures out.new)) }
+        EndsByOneCause (FailsUnread (W.contents out.old) (W.contents out.new) (E.contents errs.old) (E.contents errs.new)) status
+        (F.failures files.old) (F.failures files.new) (W.failures out.old) (W.failures out.new)) }
 {
-    let text = match read_text(alloc, input) {
+    let text = match read_text(alloc, name, files) {
         Ok(text) => text,
         Err(failure) => return Err(failure.report(errs)),
     };
     match rules(alloc, &text) {
         Ok(config) => Ok(RulesFile { text, config }),
         Err(RulesFault::Refused { line, reason }) => {
-            let source = (file, text.as_slice());
+            let source = (name, text.as_slice());
             Err(refuse_file(alloc, source, line, reason, out, errs))
         }
         Err(RulesFault::OutOfMemory) => Err(Failure::OutOfMemory.report(errs)),
     }
 }
 
-/// Returns why a file could not be opened.
-pub(crate) fn open_failure(error: &io::Error) -> Failure
-    ensures { (result ≡ Failure.ReadFailed) ⊎ (result ≡ Failure.OutOfMemory) }
-{
-    if error.kind() == ErrorKind::OutOfMemory {
-        Failure::OutOfMemory
-    } else {
-        Failure::ReadFailed
-    }
-}
-
-/// Opens and reads a rules file of this name. If the file makes no configuration, writes the cause, and returns the exit status.
-pub(crate) fn open_file<R: Files, W: CountedWrite, E: Write>(
-    rt: &R,
-    alloc: Global,
-    name: &str,
-    out: &mut W,
-    errs: &mut E,
-) -> Result<RulesFile, Status>
-    ensures of_text { IfOk result (λ file. IsConfigOf file.text.items file.config) }
-    ensures within { IfOk result (λ file. charge_of file.config ≤ CHARGE_LIMIT) }
-    ensures unwritten { OnOk result (out.new ≡ out.old) }
-    ensures no_errors { OnOk result (errs.new ≡ errs.old) }
-    ensures refused { IfErr result (λ status. status ≡ Status.Refused → RefusesRules None (W.contents out.old) (W.contents out.new)) }
-    ensures never_done { IfErr result (λ status. status ≡ Status.Done → ⊥) }
-    ensures never_misused { IfErr result (λ status. status ≡ Status.Misused → ⊥) }
-    ensures failed { IfErr result (λ status. status ≡ Status.Failed
-        → EndsUnread (W.contents out.old) (W.contents out.new) (E.contents errs.old) (E.contents errs.new)) }
-    ensures device_failed { IfErr result (λ status.
-        EndsByCause (FailsUnread (W.contents out.old) (W.contents out.new) (E.contents errs.old) (E.contents errs.new)) status
-        (W.failures out.old) (W.failures out.new)) }
-{
-    match File::open(rt, name) {
-        Ok(input) => file_of(alloc, name, input, out, errs),
-        Err(error) => Err(open_failure(&error).report(errs)),
-    }
-}
-
+#[tactic(auto, using(crate::proofs::OpeningLemmas::made_unknown, crate::proofs::OpeningLemmas::refuses_unknown))]
 /// Returns the configuration that a switch begins with: that of the rules file of this name, or one without groups. If there is
 /// none, writes the cause, and returns the exit status.
-pub fn opening<R: Files, W: CountedWrite, E: Write>(
-    rt: &R,
+pub fn opening<F: ReadFiles, W: CountedWrite, E: Write>(
     alloc: Global,
     file: Option<&str>,
+    files: &mut F,
     out: &mut W,
     errs: &mut E,
 ) -> Result<Config, Status>
     ensures made { IfOk result (λ config. IsOpening (option_map (λ name. name.now) file.entry) config) }
     ensures within { IfOk result (λ config. charge_of config ≤ CHARGE_LIMIT) }
+    ensures none_failed { OnOk result (F.failures files.new ≡ F.failures files.old) }
     ensures unwritten { OnOk result (out.new ≡ out.old) }
     ensures no_errors { OnOk result (errs.new ≡ errs.old) }
     ensures refused { IfErr result (λ status. status ≡ Status.Refused
@@ -225,13 +189,13 @@ pub fn opening<R: Files, W: CountedWrite, E: Write>(
     ensures failed { IfErr result (λ status. status ≡ Status.Failed
         → IsSome file.entry × EndsUnread (W.contents out.old) (W.contents out.new) (E.contents errs.old) (E.contents errs.new)) }
     ensures device_failed { IfErr result (λ status.
-        EndsByCause (FailsUnread (W.contents out.old) (W.contents out.new) (E.contents errs.old) (E.contents errs.new)) status
-        (W.failures out.old) (W.failures out.new)) }
+        EndsByOneCause (FailsUnread (W.contents out.old) (W.contents out.new) (E.contents errs.old) (E.contents errs.new)) status
+        (F.failures files.old) (F.failures files.new) (W.failures out.old) (W.failures out.new)) }
 {
     let Some(name) = file else {
         return Ok(Config::new(alloc));
     };
-    match open_file(rt, alloc, name, out, errs) {
+    match open_file(alloc, name, files, out, errs) {
         Ok(file) => Ok(file.config),
         Err(status) => Err(status),
     }

@@ -25,9 +25,11 @@ pub data IsServeTold (failure : Failure) (before after : Option (List ℕ)) : Ty
       AppendsBeginning before between line → AppendsBeginning between after (line_of failure) → IsServeTold failure before after
 
 -- the switch ended with a failure; if no write failed the line `ready` was written or nothing, and nothing if a socket was not bound
-pub record FailsServing (before after told_before told_after : Option (List ℕ)) : Type 0 where
-  pub failure : Failure
+pub record FailsServing (before after told_before told_after : Option (List ℕ)) (failure : Failure) : Type 0 where
   pub of_serve : IsServeFailure failure
   pub written : failure ≢ WriteFailed → WritesReadyOrNothing before after
   pub not_bound : failure ≡ BindFailed → after ≡ before
   pub told : IsServeTold failure told_before told_after
+
+abbrev pub EndsServing : (before after told_before told_after : Option (List ℕ)) → Type 0
+EndsServing before after told_before told_after = (failure : Failure) × FailsServing before after told_before told_after failure

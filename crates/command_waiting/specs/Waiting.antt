@@ -83,8 +83,7 @@ WritesRefusal (top control interval count timeout) input before after told_befor
 
 -- `serve` for these addresses failed so; if no write failed the line `ready` was written or nothing, and nothing if a socket was
 -- not bound or the rules file could not be read; but for writes and memory it fails only if both texts are addresses
-pub record EndsInServeFailure (front control : Text) (file : Option Text) (before after told_before told_after : Option (List ℕ)) : Type 0 where
-  pub failure : Failure
+pub record ServeFails (front control : Text) (file : Option Text) (before after told_before told_after : Option (List ℕ)) (failure : Failure) : Type 0 where
   pub no_read : file ≡ None → failure ≢ ReadFailed
   pub no_silence : failure ≢ NoAnswer
   pub no_rules_read : failure ≢ RulesChanged
@@ -93,6 +92,10 @@ pub record EndsInServeFailure (front control : Text) (file : Option Text) (befor
   pub not_read : failure ≡ ReadFailed → after ≡ before
   pub are_addresses : failure ≢ WriteFailed → failure ≢ OutOfMemory → IsAddress front × IsControl control
   pub told : IsServeTold failure told_before told_after
+
+abbrev pub EndsInServeFailure : (front control : Text) → Option Text → (before after told_before told_after : Option (List ℕ)) → Type 0
+EndsInServeFailure front control file before after told_before told_after =
+    (failure : Failure) × ServeFails front control file before after told_before told_after failure
 
 -- the command failed
 abbrev pub EndsInWaitingFailure : (terminal : Bool) → WaitingRequest → (input before after told_before told_after : Option (List ℕ)) → Type 0

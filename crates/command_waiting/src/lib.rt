@@ -15,7 +15,8 @@ use command_flood::run_flood;
 pub use command_flood::{DATAGRAMS, flood};
 use command_line::{Status, Waiting};
 use command_operating::{
-    Draining, Loading, Watching, run_drain, run_load, run_metrics, run_rules, run_tell, run_top,
+    Draining, Loading, ReadFiles, SystemFiles, Watching, run_drain, run_load, run_metrics,
+    run_rules, run_tell, run_top,
 };
 use command_streams::{CountedWrite, CountedWriter, FromRead, Input};
 use logging::ServeLog;
@@ -59,12 +60,14 @@ pub fn run_waiting<
         (E.contents errs.old) (E.contents errs.new) }
 {
     let mut read = FromRead::new(input);
+    let mut files = SystemFiles::new(rt);
     let mut results = CountedWriter::new(out);
     let status = run_over(
         rt,
         alloc,
         command,
         &mut read,
+        &mut files,
         log,
         terminal,
         &mut results,
@@ -74,10 +77,11 @@ pub fn run_waiting<
     status
 }
 
-// Runs a command that may wait over an input and an output whose failures are counted.
+// Runs a command that may wait over an input, files and an output whose failures are counted.
 fn run_over<
     R: Threads + Wait + Net + Clock + Files + Sync,
     I: Input,
+    F: ReadFiles,
     W: CountedWrite,
     E: Write,
     L: Write + Drop,
@@ -86,6 +90,7 @@ fn run_over<
     alloc: Global,
     command: Waiting<'_>,
     input: &mut I,
+    files: &mut F,
     log: L,
     terminal: bool,
     out: &mut W,
@@ -122,6 +127,7 @@ fn run_over<
             (receive, buffer),
             rules,
             ServeLog::new(logs, log),
+            files,
             out,
             errs,
         ),
@@ -150,7 +156,7 @@ fn run_over<
                 check,
                 diff,
             };
-            run_load(rt, alloc, loading, out, errs)
+            run_load(rt, alloc, loading, files, out, errs)
         }
         Waiting::Drain {
             control,
@@ -172,7 +178,7 @@ fn run_over<
             timeout,
         } => {
             let addresses = (control, front);
-            run_metrics(rt, alloc, addresses, timeout, out, errs)
+            run_metrics(rt, alloc, addresses, timeout, files, out, errs)
         }
         Waiting::Top {
             control,

@@ -4,17 +4,17 @@ ghost use Rattle.std.specs.Prelude.{◌≡◌, ◌≤◌, ◌⊎◌, IfOk, None,
 ghost use Rattle.member_group.specs.Charge.{charge_of};
 ghost use Rattle.versions.specs.declared.layout.TheConstants.{CHARGE_LIMIT};
 ghost use Rattle.command_line.specs.Ending.{AppendsBeginning};
-ghost use Rattle.command_streams.specs.Endings.{EndsByCause};
+ghost use Rattle.command_streams.specs.Endings.{EndsByCause, EndsByOneCause};
 ghost use Rattle.serve_udp.specs.Front.{HasFronts};
 ghost use Rattle.serve_udp.specs.Service.{WritesServedFrom};
-ghost use Rattle.command_waiting.specs.Serving.{FailsServing, IsBindLine, IsServeTold, socket_name};
-ghost use Rattle.command_waiting.specs.Waiting.{EndsInServeFailure, RefusesService, WritesService};
+ghost use Rattle.command_waiting.specs.Serving.{EndsServing, FailsServing, IsBindLine, socket_name};
+ghost use Rattle.command_waiting.specs.Waiting.{EndsInServeFailure, RefusesService, ServeFails, WritesService};
 
 use crate::logging::ServeLog;
 use command_line::{
     ControlAddress, Failure, ReceiveBuffer, ReceiveWay, Status, Workers, write_whole,
 };
-use command_operating::{opening, refuse_address};
+use command_operating::{ReadFiles, opening, refuse_address};
 use command_streams::CountedWrite;
 use dispatch::OpenGate;
 use ipv4_fields::Endpoint;
@@ -79,8 +79,8 @@ fn report_bind<W: CountedWrite, E: Write>(
     errs: &mut E,
 ) -> Status
     ensures failed { result ≡ Status.Failed }
-    ensures told { FailsServing (W.contents out.old) (W.contents out.new) (E.contents errs.old) (E.contents errs.new) }
-    ensures device_failed { EndsByCause (λ cause. IsServeTold cause (E.contents errs.old) (E.contents errs.new)) result
+    ensures told { EndsServing (W.contents out.old) (W.contents out.new) (E.contents errs.old) (E.contents errs.new) }
+    ensures device_failed { EndsByCause (FailsServing (W.contents out.old) (W.contents out.new) (E.contents errs.old) (E.contents errs.new)) result
         (W.failures out.old) (W.failures out.new) }
 {
     match fault {
@@ -109,8 +109,8 @@ fn serve_on<R: Threads + Wait + Net + Sync, W: CountedWrite, E: Write, L: Write 
     ensures no_errors { result ≡ Status.Done → errs.new ≡ errs.old }
     ensures done_or_failed { (result ≡ Status.Done) ⊎ (result ≡ Status.Failed) }
     ensures failed { result ≡ Status.Failed
-        → FailsServing (W.contents out.old) (W.contents out.new) (E.contents errs.old) (E.contents errs.new) }
-    ensures device_failed { EndsByCause (λ cause. IsServeTold cause (E.contents errs.old) (E.contents errs.new)) result
+        → EndsServing (W.contents out.old) (W.contents out.new) (E.contents errs.old) (E.contents errs.new) }
+    ensures device_failed { EndsByCause (FailsServing (W.contents out.old) (W.contents out.new) (E.contents errs.old) (E.contents errs.new)) result
         (W.failures out.old) (W.failures out.new) }
 {
     let Ok(mut log) = Log::new(*config.allocator(), lines) else {
@@ -137,8 +137,8 @@ fn serve_at<R: Threads + Wait + Net + Files + Sync, W: CountedWrite, E: Write, L
     ensures no_errors { result ≡ Status.Done → errs.new ≡ errs.old }
     ensures done_or_failed { (result ≡ Status.Done) ⊎ (result ≡ Status.Failed) }
     ensures failed { result ≡ Status.Failed
-        → FailsServing (W.contents out.old) (W.contents out.new) (E.contents errs.old) (E.contents errs.new) }
-    ensures device_failed { EndsByCause (λ cause. IsServeTold cause (E.contents errs.old) (E.contents errs.new)) result
+        → EndsServing (W.contents out.old) (W.contents out.new) (E.contents errs.old) (E.contents errs.new) }
+    ensures device_failed { EndsByCause (FailsServing (W.contents out.old) (W.contents out.new) (E.contents errs.old) (E.contents errs.new)) result
         (W.failures out.old) (W.failures out.new) }
 {
     let (alloc, count) = (*config.allocator(), workers.count);
@@ -163,6 +163,7 @@ fn serve_at<R: Threads + Wait + Net + Files + Sync, W: CountedWrite, E: Write, L
 /// destination of the log's lines.
 pub(crate) fn run_serve<
     R: Threads + Wait + Net + Files + Sync,
+    F: ReadFiles,
     W: CountedWrite,
     E: Write,
     L: Write + Drop,
@@ -174,6 +175,7 @@ pub(crate) fn run_serve<
     receive: (ReceiveWay, Option<ReceiveBuffer>),
     file: Option<&str>,
     lines: ServeLog<L>,
+    files: &mut F,
     out: &mut W,
     errs: &mut E,
 ) -> Status
@@ -188,8 +190,10 @@ pub(crate) fn run_serve<
     ensures failed { result ≡ Status.Failed
         → EndsInServeFailure addresses.entry.0.now addresses.entry.1.now (option_map (λ name. name.now) file.entry)
         (W.contents out.old) (W.contents out.new) (E.contents errs.old) (E.contents errs.new) }
-    ensures device_failed { EndsByCause (λ cause. IsServeTold cause (E.contents errs.old) (E.contents errs.new)) result
-        (W.failures out.old) (W.failures out.new) }
+    ensures device_failed { EndsByOneCause
+        (ServeFails addresses.entry.0.now addresses.entry.1.now (option_map (λ name. name.now) file.entry)
+        (W.contents out.old) (W.contents out.new) (E.contents errs.old) (E.contents errs.new)) result
+        (F.failures files.old) (F.failures files.new) (W.failures out.old) (W.failures out.new) }
 {
     let Some(address) = Endpoint::from_text(addresses.0.as_bytes()) else {
         return refuse_address(out, errs);
@@ -197,7 +201,7 @@ pub(crate) fn run_serve<
     let Some(control) = ControlAddress::from_text(addresses.1) else {
         return refuse_address(out, errs);
     };
-    let config = match opening(rt, alloc, file, out, errs) {
+    let config = match opening(alloc, file, files, out, errs) {
         Ok(config) => config,
         Err(status) => return status,
     };

@@ -1,5 +1,5 @@
 -- The front of `metrics`.
-use Rattle.std.specs.Prelude.{◌≡◌, List, None, Option, Some, ℕ}
+use Rattle.std.specs.Prelude.{◌≡◌, ◌⊎◌, Err, List, None, Option, Result, Some, ℕ}
 use Rattle.std.specs.Io.KnownBytes.{Appends}
 use Rattle.clap.specs.Words.{Text}
 use Rattle.ipv4_fields.specs.Endpoint.{IsEndpoint, endpoint_text}
@@ -10,7 +10,10 @@ use Rattle.counter_text.specs.Metrics.{metrics_text}
 use Rattle.counter_text.specs.Sockets.{AreDropsAt}
 use Rattle.counter_text.specs.declared.counters.Counters.{Counters}
 use Rattle.counter_text.specs.declared.counters.FrontDrops.{FrontDrops}
-use Rattle.command_operating.specs.Measured.{WatchesOf}
+use Rattle.command_line.specs.declared.ending.Failure.{Failure}
+use Rattle.command_line.specs.declared.ending.Failure.TheVariants.{ReadFailed}
+use Rattle.command_streams.specs.Failures.{InputFails}
+use Rattle.command_operating.specs.Measured.{HasNoDrops, WatchesOf}
 
 -- the endpoint of the text, if one is given
 abbrev pub IsGivenFront : Option Text → Option Endpoint → Type 0
@@ -32,3 +35,13 @@ pub record PrintsMetrics (switch : Peer) (front : Option Endpoint) (before after
   pub are_counters : WatchesOf switch (λ history told. AreCountersOf history told counters)
   pub are_drops : IsFrontOf front drops
   pub written : Appends before after (metrics_text counters drops)
+
+-- a table, if it is known, has no drops of the front that is given
+abbrev pub IsDropless : Option (List ℕ) → Option Endpoint → Type 0
+IsDropless known None = ⊥
+IsDropless known (Some front) = HasNoDrops known front
+
+-- a call failed to read only if one read failed, or if the table was read and has no drops of the front; and then no read failed
+abbrev pub FailsByTable : {A : Type 0} → Result A Failure → Option (List ℕ) → Option Endpoint → ℕ → ℕ → Type 0
+FailsByTable result known front before after =
+    InputFails result before after ⊎ ((result ≡ Err ReadFailed) × IsDropless known front × (after ≡ before))

@@ -1,5 +1,6 @@
 use Rattle.std.proofs.Common.{rules}
 use Rattle.command_streams.proofs.OutputLemmas.{ends_borrow, once_borrow}
+use Rattle.command_waiting.proofs.FailureLemmas.{table_borrow}
 use Rattle.command_waiting.proofs.run_over.Goals as goal
 
 pub returns-in-Flood-clause-done : goal.returns-in-Flood-clause-done
@@ -48,7 +49,7 @@ pub returns-in-Flood-clause-borrow_kept : goal.returns-in-Flood-clause-borrow_ke
 returns-in-Flood-clause-borrow_kept g c = ends_borrow _ _ _ _ c.run_flood.ensures.device_failed
 
 pub returns-in-Serve-clause-borrow_kept : goal.returns-in-Serve-clause-borrow_kept
-returns-in-Serve-clause-borrow_kept g c = ends_borrow _ _ _ _ c.run_serve.ensures.device_failed
+returns-in-Serve-clause-borrow_kept g c = once_borrow _ _ _ _ _ _ c.run_serve.ensures.device_failed
 
 pub returns-in-Tell-clause-borrow_kept : goal.returns-in-Tell-clause-borrow_kept
 returns-in-Tell-clause-borrow_kept g c = once_borrow _ _ _ _ _ _ c.run_tell.ensures.device_failed
@@ -57,13 +58,13 @@ pub returns-in-Rules-clause-borrow_kept : goal.returns-in-Rules-clause-borrow_ke
 returns-in-Rules-clause-borrow_kept g c = ends_borrow _ _ _ _ c.run_rules.ensures.device_failed
 
 pub returns-in-Load-clause-borrow_kept : goal.returns-in-Load-clause-borrow_kept
-returns-in-Load-clause-borrow_kept g c = ends_borrow _ _ _ _ c.run_load.ensures.device_failed
+returns-in-Load-clause-borrow_kept g c = once_borrow _ _ _ _ _ _ c.run_load.ensures.device_failed
 
 pub returns-in-Drain-clause-borrow_kept : goal.returns-in-Drain-clause-borrow_kept
 returns-in-Drain-clause-borrow_kept g c = ends_borrow _ _ _ _ c.run_drain.ensures.device_failed
 
 pub returns-in-Metrics-clause-borrow_kept : goal.returns-in-Metrics-clause-borrow_kept
-returns-in-Metrics-clause-borrow_kept g c = ends_borrow _ _ _ _ c.run_metrics.ensures.device_failed
+returns-in-Metrics-clause-borrow_kept g c = table_borrow _ _ _ _ _ _ _ _ c.run_metrics.ensures.device_failed
 
 pub returns-in-Top-clause-borrow_kept : goal.returns-in-Top-clause-borrow_kept
 returns-in-Top-clause-borrow_kept g c = ends_borrow _ _ _ _ c.run_top.ensures.device_failed

@@ -1,4 +1,4 @@
-use Rattle.command_streams.proofs.OutputLemmas.{ends_reported}
+use Rattle.command_operating.proofs.CauseLemmas.{reported_once}
 use Rattle.command_operating.proofs.ShowingLemmas.{ended_failed, ended_replaced, fail_told, good_never_failed, nothing_told, told_from}
 use Rattle.command_operating.proofs.loading.replace.Goals as goal
 
@@ -19,7 +19,7 @@ returns-clause-failed g c =
 
 pub returns-clause-device_failed : goal.returns-clause-device_failed
 returns-clause-device_failed g c =
-    ends_reported _ _ _ c.print_replaced-ended.result c.reported.result c.reported.ensures.status c.reported.ensures.failed
+    reported_once _ _ _ c.print_replaced-ended.result c.reported.result c.reported.ensures.status c.reported.ensures.failed
     (fail_told _ g.W.CountedWrite.contents c.args.out.now c.print_replaced-ended.new.out _ _ c.print_replaced-ended.result c.print_replaced-ended.ensures.unwritten
     (told_from _ g.E.Write.contents c.args.errs.now c.print_replaced-ended.new.errs _ c.print_replaced-ended.result c.print_replaced-ended.ensures.unshown c.reported.ensures.told))
-    (good_never_failed c.print_replaced-ended.result c.print_replaced-ended.ensures.done_or_refused) c.print_replaced-ended.ensures.device_failed
+    (good_never_failed c.print_replaced-ended.result c.print_replaced-ended.ensures.done_or_refused) c.print_replaced-ended.ensures.device_failed c.print_replaced-ended.ensures.never_unread

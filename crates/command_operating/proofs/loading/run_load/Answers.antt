@@ -1,6 +1,8 @@
-use Rattle.command_streams.proofs.OutputLemmas.{ends_as, ends_unwritten}
+use Rattle.std.proofs.Common.{refl}
 use Rattle.control_client.specs.Wire.{peer_of}
 use Rattle.command_operating.specs.Showing.{file_refused}
+use Rattle.command_operating.proofs.CauseLemmas.{once_as, refuses_once}
+use Rattle.command_operating.proofs.OpeningLemmas.{refuses_unknown}
 use Rattle.command_operating.proofs.ShowingLemmas.{checks, ends_asked, fail_alone, fail_unread, fail_writing, fails_alone, fails_asked, fails_unread, fails_writing, is_switch, refuses_change, refuses_switch, replaces, shows}
 use Rattle.command_operating.proofs.loading.run_load.Goals as goal
 
@@ -14,7 +16,7 @@ pub returns-then-loading-clause-failed : goal.returns-then-loading-clause-failed
 returns-then-loading-clause-failed g c = λ is. fails_alone _ _ _ _ _ (c.check_file.ensures.failed is)
 
 pub returns-then-loading-clause-device_failed : goal.returns-then-loading-clause-device_failed
-returns-then-loading-clause-device_failed g c = ends_as _ _ _ _ c.check_file.result (λ failure fails. fail_alone _ _ _ _ _ failure fails) c.check_file.ensures.device_failed
+returns-then-loading-clause-device_failed g c = once_as _ _ _ _ _ _ c.check_file.result (λ failure fails. fail_alone _ _ _ _ _ failure fails) c.check_file.ensures.device_failed
 
 pub returns-in_default-clause-refused : goal.returns-in_default-clause-refused
 returns-in_default-clause-refused g c = λ is. refuses_switch _ _ _ _ _ c.if-loading.false c.in_default.ensures (c.refuse_address.ensures.refused is)
@@ -23,7 +25,7 @@ pub returns-in_default-clause-failed : goal.returns-in_default-clause-failed
 returns-in_default-clause-failed g c = λ is. fails_writing _ _ _ _ _ (c.refuse_address.ensures.failed is)
 
 pub returns-in-Err-clause-refused : goal.returns-in-Err-clause-refused
-returns-in-Err-clause-refused g c = λ is. file_refused _ _ (c.in-Err.ensures.refused is)
+returns-in-Err-clause-refused g c = λ is. file_refused _ _ (refuses_unknown _ _ _ (c.in-Err.ensures.refused is))
 
 pub returns-then-loading-2-clause-done : goal.returns-then-loading-2-clause-done
 returns-then-loading-2-clause-done g c =
@@ -58,19 +60,19 @@ returns-clause-failed g c =
     λ is. fails_asked _ c.in-Some.control.now c.in-Some.address _ _ _ _ c.in-Some.ensures (told is)
 
 pub returns-in_default-clause-device_failed : goal.returns-in_default-clause-device_failed
-returns-in_default-clause-device_failed g c = ends_unwritten _ _ _ c.refuse_address.result (λ is. fail_writing _ _ _ _ _ (c.refuse_address.ensures.failed is)) c.refuse_address.ensures.device_failed
+returns-in_default-clause-device_failed g c = refuses_once _ _ _ _ _ c.refuse_address.result refl (λ is. fail_writing _ _ _ _ _ (c.refuse_address.ensures.failed is)) c.refuse_address.ensures.device_failed
 
 pub returns-in-Err-clause-device_failed : goal.returns-in-Err-clause-device_failed
-returns-in-Err-clause-device_failed g c = ends_as _ _ _ _ c.in-Err.status (λ failure unread. fail_unread _ _ _ _ _ failure unread) c.in-Err.ensures.device_failed
+returns-in-Err-clause-device_failed g c = once_as _ _ _ _ _ _ c.in-Err.status (λ failure unread. fail_unread _ _ _ _ _ failure unread) c.in-Err.ensures.device_failed
 
 pub returns-then-loading-2-clause-device_failed : goal.returns-then-loading-2-clause-device_failed
 returns-then-loading-2-clause-device_failed g c =
     let ends = rw c.in-Ok.ensures.unwritten at c.show_changes.ensures.device_failed in
     let told = rw c.in-Ok.ensures.no_errors at ends in
-    ends_asked _ c.in-Some.control.now c.in-Some.address _ _ _ _ _ _ _ c.in-Some.ensures told
+    ends_asked _ c.in-Some.control.now c.in-Some.address _ _ _ _ _ _ _ _ _ c.in-Some.ensures c.in-Ok.ensures.none_failed told
 
 pub returns-clause-device_failed : goal.returns-clause-device_failed
 returns-clause-device_failed g c =
     let ends = rw c.in-Ok.ensures.unwritten at c.replace.ensures.device_failed in
     let told = rw c.in-Ok.ensures.no_errors at ends in
-    ends_asked _ c.in-Some.control.now c.in-Some.address _ _ _ _ _ _ _ c.in-Some.ensures told
+    ends_asked _ c.in-Some.control.now c.in-Some.address _ _ _ _ _ _ _ _ _ c.in-Some.ensures c.in-Ok.ensures.none_failed told

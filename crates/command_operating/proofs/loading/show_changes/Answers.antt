@@ -1,4 +1,4 @@
-use Rattle.command_streams.proofs.OutputLemmas.{ends_reported}
+use Rattle.command_operating.proofs.CauseLemmas.{reported_once}
 use Rattle.command_operating.proofs.ShowingLemmas.{done_is_good, ended_failed, fail_told, good_never_failed}
 use Rattle.command_operating.proofs.loading.show_changes.Goals as goal
 
@@ -9,6 +9,6 @@ returns-clause-failed g c =
 
 pub returns-clause-device_failed : goal.returns-clause-device_failed
 returns-clause-device_failed g c =
-    ends_reported _ _ _ c.print_changes-ended.result c.reported.result c.reported.ensures.status c.reported.ensures.failed
+    reported_once _ _ _ c.print_changes-ended.result c.reported.result c.reported.ensures.status c.reported.ensures.failed
     (fail_told _ g.W.CountedWrite.contents c.args.out.now c.print_changes-ended.new.out _ _ c.print_changes-ended.result c.print_changes-ended.ensures.unwritten c.reported.ensures.told)
-    (good_never_failed c.print_changes-ended.result (done_is_good c.print_changes-ended.result c.print_changes-ended.ensures.done)) c.print_changes-ended.ensures.device_failed
+    (good_never_failed c.print_changes-ended.result (done_is_good c.print_changes-ended.result c.print_changes-ended.ensures.done)) c.print_changes-ended.ensures.device_failed c.print_changes-ended.ensures.never_unread

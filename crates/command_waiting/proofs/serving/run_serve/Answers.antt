@@ -1,8 +1,7 @@
-use Rattle.std.proofs.Common.{Bor, List, rules, sym, ◌∙◌, ℕ}
-use Rattle.command_streams.proofs.OutputLemmas.{ends_as, ends_unwritten}
-use Rattle.command_waiting.specs.Serving.{told_alone}
+use Rattle.std.proofs.Common.{Bor, List, refl, rules, sym, ◌∙◌, ℕ}
+use Rattle.command_operating.proofs.CauseLemmas.{refuses_once}
 use Rattle.command_waiting.specs.Waiting.{no_rules}
-use Rattle.command_waiting.proofs.FailureLemmas.{fails_serving, fails_unwritten, named}
+use Rattle.command_waiting.proofs.FailureLemmas.{ends_serving, ends_unread, fail_unwritten, fails_serving, fails_unwritten, is_given, named}
 use Rattle.command_waiting.proofs.serving.run_serve.Goals as goal
 
 pub returns-in_default-clause-failed : goal.returns-in_default-clause-failed
@@ -28,15 +27,19 @@ returns-in-Err-clause-refused g c = λ is.
 
 pub returns-in_default-clause-device_failed : goal.returns-in_default-clause-device_failed
 returns-in_default-clause-device_failed g c =
-    ends_unwritten _ _ _ c.refuse_address.result (λ is. told_alone (c.refuse_address.ensures.failed is)) c.refuse_address.ensures.device_failed
+    refuses_once _ _ _ _ _ c.refuse_address.result refl (λ is. fail_unwritten _ _ _ _ _ _ _ (c.refuse_address.ensures.failed is)) c.refuse_address.ensures.device_failed
 
 pub returns-in_default-from_text-clause-device_failed : goal.returns-in_default-from_text-clause-device_failed
 returns-in_default-from_text-clause-device_failed g c =
     let refused = c.refuse_address-in_default-from_text in
-    ends_unwritten _ _ _ refused.result (λ is. told_alone (refused.ensures.failed is)) refused.ensures.device_failed
+    refuses_once _ _ _ _ _ refused.result refl (λ is. fail_unwritten _ _ _ _ _ _ _ (refused.ensures.failed is)) refused.ensures.device_failed
 
 pub returns-in-Err-clause-device_failed : goal.returns-in-Err-clause-device_failed
-returns-in-Err-clause-device_failed g c = ends_as _ _ _ _ _ (λ failure unread. told_alone unread.told) c.in-Err.ensures.device_failed
+returns-in-Err-clause-device_failed g c =
+    ends_unread _ _ _ _ _ _ _
+    (c.in-Some.address, c.in-Some.ensures.0, sym c.as_bytes.ensures.value ∙ c.in-Some.ensures.1)
+    (c.in-Some-from_text.control, c.in-Some-from_text.ensures)
+    _ _ _ _ c.in-Err.status (λ is. is_given (λ (name : Bor (List ℕ)). name.now) c.args.file (c.in-Err.ensures.failed is).0) c.in-Err.ensures.device_failed
 
 pub returns-clause-failed : goal.returns-clause-failed
 returns-clause-failed g c = λ is.
@@ -44,3 +47,10 @@ returns-clause-failed g c = λ is.
     (c.in-Some.address, c.in-Some.ensures.0, sym c.as_bytes.ensures.value ∙ c.in-Some.ensures.1)
     (c.in-Some-from_text.control, c.in-Some-from_text.ensures)
     (rw (c.in-Ok.ensures.unwritten, c.in-Ok.ensures.no_errors) at (c.serve_at.ensures.failed is))
+
+pub returns-clause-device_failed : goal.returns-clause-device_failed
+returns-clause-device_failed g c =
+    ends_serving _ _ _ _ _ _ _
+    (c.in-Some.address, c.in-Some.ensures.0, sym c.as_bytes.ensures.value ∙ c.in-Some.ensures.1)
+    (c.in-Some-from_text.control, c.in-Some-from_text.ensures)
+    _ _ _ _ c.serve_at.result c.in-Ok.ensures.none_failed (rw (c.in-Ok.ensures.unwritten, c.in-Ok.ensures.no_errors) at c.serve_at.ensures.device_failed)
