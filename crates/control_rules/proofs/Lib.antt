@@ -4,6 +4,7 @@ pub mod LearnLemmas
 mod WordLemmas
 mod ReplyLemmas
 mod ResultLemmas
+mod AskedLemmas
 pub mod FoundLemmas
 pub mod ShownLemmas
 pub mod AddedLemmas

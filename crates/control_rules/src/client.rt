@@ -1,7 +1,8 @@
 //! A client of a switch: it sends lines, and receives their replies.
 
-ghost use Rattle.std.specs.Prelude.{◌≡◌, IfOk};
+ghost use Rattle.std.specs.Prelude.{◌≡◌, IfErr, IfOk};
 ghost use Rattle.control_client.specs.Exchange.{Asks};
+ghost use Rattle.control_rules.specs.Asked.{AskEndsBy};
 
 use crate::ask_failure::AskFailure;
 use control_client::{LONGEST_DATAGRAM, Peer, Wire, ask};
@@ -30,6 +31,7 @@ impl<D: Wire + Drop> Client<D> {
     pub fn new(alloc: Global, wire: D, switch: Peer) -> Result<Client<D>, AskFailure>
         ensures switch { IfOk result (λ client. client.switch ≡ switch) }
         ensures log { IfOk result (λ client. client.log ≡ D.log wire) }
+        ensures failed { IfErr result (λ failure. failure ≡ AskFailure.OutOfMemory) }
     {
         Ok(Client {
             wire,
@@ -48,6 +50,7 @@ impl<D: Wire + Drop> Client<D> {
     pub fn ask(&mut self, line: &[u8]) -> Result<Vec<u8>, AskFailure>
         ensures switch { self.new.switch ≡ self.old.switch }
         ensures asked { IfOk result (λ reply. Asks self.old.switch line.now reply.items self.old.log self.new.log) }
+        ensures unasked { IfErr result (λ failure. AskEndsBy failure self.old.switch line.now self.old.log self.new.log) }
     {
         match ask(&mut self.wire, self.switch, line, &mut self.room) {
             Ok(reply) => Ok(Vec::from_slice(self.alloc, reply)?),
