@@ -241,7 +241,7 @@ fn unflushed_reply_is_e2(rt: HostRuntime) {
         &mut Full,
     );
     assert!(rt; ended == Err(Failure::WriteFailed));
-    assert!(rt; sent.as_slice() == b"show\n");
+    assert!(rt; sent.as_slice() == b"show\n".as_slice());
 }
 
 // A line that is longer than a datagram may carry, and then these.
