@@ -7,13 +7,11 @@ use command_line::{Failure, refuse_arguments, wants_control, with_control};
 use command_returning::run_returning;
 use command_waiting::run_waiting;
 use std::env::{Env, VarError};
-use std::fs::{File, OpenOptions};
+use std::fs::File;
 use std::io::{ErrorKind, IsTerminal, LineWriter};
-use std::os::fd::{AsRawFd, RawFd};
+use std::os::fd::AsRawFd;
 use std::process::ExitCode;
 use std::{env, io};
-
-const NULL: &str = "/dev/null";
 
 // The words after the program's name, with the address of control from the environment if they lack it.
 fn arguments<R: Env + AllocGlobal>(rt: &R) -> io::Result<Vec<String>> {
@@ -29,13 +27,12 @@ fn arguments<R: Env + AllocGlobal>(rt: &R) -> io::Result<Vec<String>> {
     }
 }
 
-// The file, if it is open at one of these descriptors.
-fn at<F: AsRawFd + Drop>(opened: io::Result<F>, first: RawFd, last: RawFd) -> Option<F>
+// The root directory, if it is opened at a standard descriptor.
+fn at_standard<F: AsRawFd + Drop>(opened: io::Result<F>) -> Option<F>
     ensures { IfSome result (λ file. opened ≡ Ok file) }
 {
     let file = opened.ok()?;
-    let number = file.as_raw_fd();
-    if first <= number && number <= last {
+    if file.as_raw_fd() <= 2 {
         Some(file)
     } else {
         None
@@ -43,11 +40,11 @@ fn at<F: AsRawFd + Drop>(opened: io::Result<F>, first: RawFd, last: RawFd) -> Op
 }
 
 fn main(rt: HostRuntime) -> ExitCode {
-    // A standard descriptor that the caller closed would be that of the first socket, and results would go to a switch. So it is
-    // opened, and in a way that its reads or writes fail.
-    let _input = at(OpenOptions::new().write(true).open(&rt, NULL), 0, 0);
-    let _results = at(File::open(&rt, NULL), 1, 2);
-    let _errors = at(File::open(&rt, NULL), 1, 2);
+    // A standard descriptor that the caller closed would be that of the first socket, and results would go to a switch. A directory
+    // takes its place: it can be neither read nor written, also if it is opened again as /dev/stdin.
+    let _first = at_standard(File::open(&rt, "/"));
+    let _second = at_standard(File::open(&rt, "/"));
+    let _third = at_standard(File::open(&rt, "/"));
     let mut errs = rt.stderr();
     let words = match arguments(&rt) {
         Ok(words) => words,
