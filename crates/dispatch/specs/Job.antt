@@ -1,5 +1,6 @@
 -- The run of a job by a worker's thread (docs/SWITCH.md, "Workers").
 use Rattle.std.specs.Prelude.{◌≡◌, ◌+◌, ◌%◌, ◌^◌, ◌∷◌, Err, List, Ok, Option, Result, [], false, true, ℕ}
+use Rattle.std.specs.List.{All}
 use Rattle.dispatch.specs.declared.batches.BatchDone.{BatchDone}
 use Rattle.dispatch.specs.declared.batches.BatchFault.{BatchFault}
 use Rattle.dispatch.specs.declared.batches.BatchFault.TheVariants.{CountFull, ReceiveFailed}
@@ -44,3 +45,9 @@ pub record IsToldJob (room limit step number : ℕ) (log log' : Option (List Gat
   pub events : List GateEvent
   pub logged : Takes log log' events
   pub job : IsNumberedJob room limit step number before after events
+
+-- a numbered job, and the gate was called for each of its events
+pub record IsGatedJob (Called : GateEvent → Type 0) (room limit step number : ℕ) (before after : Parts) : Type 0 where
+  pub events : List GateEvent
+  pub job : IsNumberedJob room limit step number before after events
+  pub called : All Called events

@@ -1,11 +1,11 @@
 -- The results of the threads of several jobs (docs/SWITCH.md, "Workers").
-use Rattle.std.specs.Prelude.{◌≡◌, ◌∷◌, List, [], length}
+use Rattle.std.specs.Prelude.{◌≡◌, ◌+◌, ◌%◌, ◌^◌, ◌∷◌, List, [], length, ℕ}
 use Rattle.dispatch.specs.declared.device.Outbox as Outbox
 use Rattle.dispatch.specs.declared.device.Source as Source
 use Rattle.dispatch.specs.declared.worker_job.Done.{Done}
 use Rattle.dispatch.specs.declared.worker_job.Job.{Job}
 use Rattle.dispatch.specs.Batch.{Parts}
-use Rattle.dispatch.specs.Job.{IsJob}
+use Rattle.dispatch.specs.Job.{GateEvent, IsGatedJob, IsJob}
 
 module _ {S O : Type 0} (source : Source.Ghosts S) (outbox : Outbox.Ghosts O) where
   -- the start and the end of a job
@@ -26,3 +26,14 @@ module _ {S O : Type 0} (source : Source.Ghosts S) (outbox : Outbox.Ghosts O) wh
   AreDone [] (done ∷ dones) = ⊥
   AreDone (job ∷ jobs) [] = ⊥
   AreDone (job ∷ jobs) (done ∷ dones) = IsDone job done × AreDone jobs dones
+
+  -- for each batch of the job, which have the numbers `number`, `number + step` and so on, the gate was called
+  abbrev pub IsGatedDone : (GateEvent → Type 0) → ℕ → ℕ → Job S O source outbox → Done S O → Type 0
+  IsGatedDone called step number job done = IsGatedJob called (length job.buffer.items) job.limit step number (parts_of_job job) (parts_of_done done)
+
+  -- the same of each job: the first one begins with this number, and each further one with the next
+  abbrev pub AreGatedDone : (GateEvent → Type 0) → ℕ → ℕ → List (Job S O source outbox) → List (Done S O) → Type 0
+  AreGatedDone called step number [] [] = Unit {0}
+  AreGatedDone called step number [] (done ∷ dones) = ⊥
+  AreGatedDone called step number (job ∷ jobs) [] = ⊥
+  AreGatedDone called step number (job ∷ jobs) (done ∷ dones) = IsGatedDone called step number job done × AreGatedDone called step ((number + 1) % 2 ^ 64) jobs dones

@@ -1,2 +1,3 @@
 pub mod Datagram
+pub mod Starts
 pub mod TallyRule

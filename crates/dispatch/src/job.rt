@@ -3,7 +3,7 @@
 ghost use Rattle.std.specs.Prelude.{◌≡◌, ◌≤◌, ◌∷◌, List, Option, [], false, length, true};
 ghost use Rattle.bpf_machine.specs.declared.TheConstants.{MAX_PACKET};
 ghost use Rattle.dispatch.specs.Device.{Takes};
-ghost use Rattle.dispatch.specs.Job.{EndsWith, GateEvent, GoesOn, IsJob, IsToldJob, ended, started};
+ghost use Rattle.dispatch.specs.Job.{EndsWith, GateEvent, GoesOn, IsGatedJob, IsJob, IsToldJob, ended, started};
 
 use crate::batches::{BatchDone, BatchFault, batch};
 use crate::device::{Outbox, Source};
@@ -12,10 +12,17 @@ use read_section::Worker;
 use std::sync::Wait;
 
 /// Is called when each batch of a job begins and ends, with the batch's number.
+///
+/// `called` is a fact about an event that only a call for it makes known, unless an implementor gives it another meaning. So a contract
+/// that has the fact says that the gate was called.
 pub trait Gate {
-    fn start(&self, batch: u64);
+    ghost called: { Self → GateEvent → Type 0 } = { λ gate event. Unit {0} };
 
-    fn done(&self, batch: u64);
+    fn start(&self, batch: u64)
+        ensures called { called self.now (started batch) };
+
+    fn done(&self, batch: u64)
+        ensures called { called self.now (ended batch) };
 }
 
 /// Lets each batch begin at once.
@@ -28,18 +35,24 @@ impl Gate for OpenGate {
 }
 
 /// Is called when each batch of one worker's job begins and ends, with the batch's number. Contracts see the numbers in their order, if
-/// they are known.
+/// they are known, and of each number that the gate was called, as `Gate` has it.
 pub trait WorkerGate {
     ghost log: { Self → Option (List GateEvent) };
 
+    ghost called: { Self → GateEvent → Type 0 } = { λ gate event. Unit {0} };
+
     fn start(&mut self, batch: u64)
-        ensures logged { Takes (log self.old) (log self.new) (started batch ∷ []) };
+        ensures logged { Takes (log self.old) (log self.new) (started batch ∷ []) }
+        ensures called { called self.old (started batch) }
+        ensures same_gate { (event : GateEvent) → called self.new event → called self.old event };
 
     fn done(&mut self, batch: u64)
-        ensures logged { Takes (log self.old) (log self.new) (ended batch ∷ []) };
+        ensures logged { Takes (log self.old) (log self.new) (ended batch ∷ []) }
+        ensures called { called self.old (ended batch) }
+        ensures same_gate { (event : GateEvent) → called self.new event → called self.old event };
 }
 
-// The gate of all workers, as one of them knows it. Others pass numbers to it meanwhile, so contracts know none.
+// The gate of all workers, as one of them knows it. Others pass numbers to it meanwhile, so contracts do not know their order.
 #[derive(Drop)]
 struct SharedGate<'a, G: Gate> {
     gate: &'a G,
@@ -49,6 +62,8 @@ impl<G: Gate> WorkerGate for SharedGate<'_, G> {
     ghost use Rattle.std.specs.Prelude.{None};
 
     ghost log = { λ _. None };
+
+    ghost called = { λ g event. G.called g.gate.now event };
 
     fn start(&mut self, batch: u64) {
         self.gate.start(batch);
@@ -92,6 +107,9 @@ pub fn run_job<R: Wait, S: Source, O: Outbox, G: Gate>(
     ensures done_by_batches { IsJob (length buf.old) limit
         (record { worker = worker.old; counter = counter.old; source = S.state source.old; outbox = O.state outbox.old })
         (record { worker = worker.new; counter = counter.new; source = S.state source.new; outbox = O.state outbox.new }) }
+    ensures gate_called { IsGatedJob (G.called gate.now) (length buf.old) limit numbers.1 numbers.0
+        (record { worker = worker.old; counter = counter.old; source = S.state source.old; outbox = O.state outbox.old })
+        (record { worker = worker.new; counter = counter.new; source = S.state source.new; outbox = O.state outbox.new }) }
 {
     let mut gate = SharedGate { gate };
     run_told_job(
@@ -114,6 +132,9 @@ pub fn run_told_job<R: Wait, S: Source, O: Outbox, G: WorkerGate>(
     requires buffer { length buf.old ≤ MAX_PACKET }
     requires at_least_one { 1 ≤ limit }
     ensures told { IsToldJob (length buf.old) limit numbers.1 numbers.0 (G.log gate.old) (G.log gate.new)
+        (record { worker = worker.old; counter = counter.old; source = S.state source.old; outbox = O.state outbox.old })
+        (record { worker = worker.new; counter = counter.new; source = S.state source.new; outbox = O.state outbox.new }) }
+    ensures gate_called { IsGatedJob (G.called gate.old) (length buf.old) limit numbers.1 numbers.0
         (record { worker = worker.old; counter = counter.old; source = S.state source.old; outbox = O.state outbox.old })
         (record { worker = worker.new; counter = counter.new; source = S.state source.new; outbox = O.state outbox.new }) }
 {

@@ -2,7 +2,7 @@
 
 ghost use Rattle.std.specs.Prelude.{◌≡◌, ◌≤◌, length};
 ghost use Rattle.bpf_machine.specs.declared.TheConstants.{MAX_PACKET};
-ghost use Rattle.dispatch.specs.Job.{IsJob};
+ghost use Rattle.dispatch.specs.Job.{IsGatedJob, IsJob};
 
 use crate::device::{Outbox, Source};
 use crate::job::{Gate, run_job};
@@ -42,6 +42,9 @@ pub fn finish<R: Wait, S: Source, O: Outbox, G: Gate>(
     job: Job<S, O>,
 ) -> Done<S, O>
     ensures done_by_batches { IsJob (length job.buffer.items) job.limit
+        (record { worker = job.worker; counter = job.counter; source = S.state job.source; outbox = O.state job.outbox })
+        (record { worker = result.worker; counter = result.counter; source = S.state result.source; outbox = O.state result.outbox }) }
+    ensures gate_called { IsGatedJob (G.called gate.now) (length job.buffer.items) job.limit numbers.1 numbers.0
         (record { worker = job.worker; counter = job.counter; source = S.state job.source; outbox = O.state job.outbox })
         (record { worker = result.worker; counter = result.counter; source = S.state result.source; outbox = O.state result.outbox }) }
     ensures same_room { length result.buffer.items ≡ length job.buffer.items }

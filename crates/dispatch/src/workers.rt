@@ -2,7 +2,8 @@
 
 ghost use Rattle.std.specs.Prelude.{◌≡◌, ◌+◌, ◌++◌, ◌∷◌, ◌<◌, ◌≤◌, Err, IfErr, IfOk, [], false, map, true, vec_capacity, vec_len};
 ghost use Rattle.dispatch.specs.declared.workers.RunFault.TheVariants.{OutOfMemory, SpawnFailed};
-ghost use Rattle.dispatch.specs.Workers.{AreDone, IsDone};
+ghost use Rattle.dispatch.specs.Workers.{AreDone, AreGatedDone, IsDone, IsGatedDone};
+ghost use Rattle.dispatch.specs.body.Starts.{AreEach, begun, numbered};
 
 use crate::device::{Outbox, Source};
 use crate::job::Gate;
@@ -22,12 +23,18 @@ pub enum RunFault {
     OutOfMemory,
 }
 
-// Keeps a job as it is before its thread is started. Promises that the thread returns the parts of that job, run to its end.
+// Keeps what a thread is started with, as it is before: its job, the number of its first batch and the step from one batch to the next,
+// and the gate. Promises that the thread returns the parts of that job, run to its end, and that the gate was called for each batch.
 #[derive(Drop)]
-struct Finishes<S: Source, O: Outbox>(Snapshot<Job<S, O>>);
+struct Finishes<S: Source, O: Outbox, G> {
+    job: Snapshot<Job<S, O>>,
+    numbers: (u64, u64),
+    gate: Snapshot<G>,
+}
 
-impl<S: Source, O: Outbox> Promise<Done<S, O>> for Finishes<S, O> {
-    ghost kept_by = { λ promise done. IsDone S.Source O.Outbox promise.0.value done };
+impl<S: Source, O: Outbox, G: Gate> Promise<Done<S, O>> for Finishes<S, O, G> {
+    ghost kept_by = { λ promise done. IsDone S.Source O.Outbox promise.job.value done
+        × IsGatedDone S.Source O.Outbox (G.called promise.gate.value) promise.numbers.1 promise.numbers.0 promise.job.value done };
 }
 
 // Starts a thread for a job. Returns false if it could not be started.
@@ -44,18 +51,21 @@ fn start_one<
     job: Job<S, O>,
     numbers: (u64, u64),
     gate: &'e G,
-    handles: &mut Vec<PromisedHandle<Done<S, O>, Finishes<S, O>>>,
+    handles: &mut Vec<PromisedHandle<Done<S, O>, Finishes<S, O, G>>>,
 ) -> bool
     requires room { vec_len handles.old < vec_capacity handles.old }
-    ensures started { result ≡ true → map (λ h. h.promise.0.value) handles.new.items ≡ map (λ h. h.promise.0.value) handles.old.items ++ job ∷ [] }
+    ensures started { result ≡ true → map (λ h. begun h.promise.job.value h.promise.numbers.0 h.promise.numbers.1 h.promise.gate.value) handles.new.items
+        ≡ map (λ h. begun h.promise.job.value h.promise.numbers.0 h.promise.numbers.1 h.promise.gate.value) handles.old.items ++ begun job numbers.0 numbers.1 gate.entry.now ∷ [] }
     ensures one_more { result ≡ true → vec_len handles.new ≡ vec_len handles.old + 1 }
     ensures no_more { result ≡ false → vec_len handles.new ≡ vec_len handles.old }
     ensures capacity { vec_capacity handles.new ≡ vec_capacity handles.old }
 {
-    match scope.spawn_with(
-        Finishes(Snapshot::of(&job)),
-        move || finish(rt, gate, numbers, job),
-    ) {
+    let promise = Finishes {
+        job: Snapshot::of(&job),
+        numbers,
+        gate: Snapshot::of(gate),
+    };
+    match scope.spawn_with(promise, move || finish(rt, gate, numbers, job)) {
         Ok(handle) => {
             handles.push_reserved(handle);
             true
@@ -77,11 +87,12 @@ fn start_each<
     scope: &'s Scope<'s, &'e ()>,
     jobs: Vec<Job<S, O>>,
     gate: &'e G,
-    handles: &mut Vec<PromisedHandle<Done<S, O>, Finishes<S, O>>>,
+    handles: &mut Vec<PromisedHandle<Done<S, O>, Finishes<S, O, G>>>,
 ) -> bool
     requires empty { handles.old.items ≡ [] }
     requires room { vec_len jobs ≤ vec_capacity handles.old }
-    ensures started { result ≡ true → map (λ h. h.promise.0.value) handles.new.items ≡ jobs.items }
+    ensures started { result ≡ true → map (λ h. begun h.promise.job.value h.promise.numbers.0 h.promise.numbers.1 h.promise.gate.value) handles.new.items
+        ≡ numbered (λ job number. begun job number (vec_len jobs) gate.entry.now) 1 jobs.items }
     ensures one_a_job { result ≡ true → vec_len handles.new ≡ vec_len jobs }
     ensures no_more { vec_len handles.new ≤ vec_len jobs }
     ensures spawn_failed { result ≡ false → 0 < vec_len jobs }
@@ -97,33 +108,24 @@ fn start_each<
     true
 }
 
-// Waits for each thread, and returns their results in order.
-fn join_each<R: Threads, S: Source + Drop, O: Outbox + Drop>(
+// Waits for each thread, and returns their results in order. Each promise is kept.
+fn join_each<R: Threads, T: Drop, P: Promise<T> + Drop>(
     rt: &R,
-    handles: Vec<PromisedHandle<Done<S, O>, Finishes<S, O>>>,
-    results: &mut Vec<Done<S, O>>,
+    handles: Vec<PromisedHandle<T, P>>,
+    results: &mut Vec<T>,
 )
     requires empty { results.old.items ≡ [] }
     requires room { vec_len handles ≤ vec_capacity results.old }
     ensures one_a_handle { vec_len results.new ≡ vec_len handles }
-    ensures done { AreDone S.Source O.Outbox (map (λ h. h.promise.0.value) handles.items) results.new.items }
+    ensures kept { AreEach P.kept_by (map (λ h. h.promise) handles.items) results.new.items }
 {
     for handle in handles {
         results.push_reserved(handle.join(rt));
     }
 }
 
-// Room for the handles and the results of so many jobs.
-fn room_for<S: Source + Drop, O: Outbox + Drop>(
-    alloc: Global,
-    count: usize,
-) -> Result<
-    (
-        Vec<PromisedHandle<Done<S, O>, Finishes<S, O>>>,
-        Vec<Done<S, O>>,
-    ),
-    RunFault,
->
+// Room for the handles and the results of so many threads.
+fn room_for<H: Drop, T: Drop>(alloc: Global, count: usize) -> Result<(Vec<H>, Vec<T>), RunFault>
     ensures handles { IfOk result (λ rooms. (rooms.0.items ≡ []) × (count ≤ vec_capacity rooms.0)) }
     ensures results { IfOk result (λ rooms. (rooms.1.items ≡ []) × (count ≤ vec_capacity rooms.1)) }
     ensures fault { IfErr result (λ fault. fault ≡ OutOfMemory) }
@@ -168,6 +170,7 @@ fn run_in<
     requires side { F.pre side }
     ensures one_done_a_job { IfOk result (λ dones. vec_len dones ≡ vec_len jobs) }
     ensures done { IfOk result (λ dones. AreDone S.Source O.Outbox jobs.items dones.items) }
+    ensures gate_called { IfOk result (λ dones. AreGatedDone S.Source O.Outbox (G.called gate.entry.now) (vec_len jobs) 1 jobs.items dones.items) }
     ensures side_was_run { IfOk result (λ dones. F.post side tt) }
     ensures spawn_failed { result ≡ Err SpawnFailed → 0 < vec_len jobs }
 {
@@ -208,6 +211,7 @@ pub fn run_workers<
     requires side { F.pre side }
     ensures one_done_a_job { IfOk result (λ dones. vec_len dones ≡ vec_len jobs) }
     ensures done_by_batches { IfOk result (λ dones. AreDone S.Source O.Outbox jobs.items dones.items) }
+    ensures gate_called { IfOk result (λ dones. AreGatedDone S.Source O.Outbox (G.called gate.now) (vec_len jobs) 1 jobs.items dones.items) }
     ensures side_was_run { IfOk result (λ dones. F.post side tt) }
     ensures spawn_failed { result ≡ Err SpawnFailed → 0 < vec_len jobs }
 {
@@ -218,6 +222,7 @@ pub fn run_workers<
             requires { F.pre side }
             ensures one_done_a_job { IfOk result (λ dones. vec_len dones ≡ vec_len jobs) }
             ensures done { IfOk result (λ dones. AreDone S.Source O.Outbox jobs.items dones.items) }
+            ensures gate_called { IfOk result (λ dones. AreGatedDone S.Source O.Outbox (G.called gate.entry.now) (vec_len jobs) 1 jobs.items dones.items) }
             ensures side_was_run { IfOk result (λ dones. F.post side tt) }
             ensures spawn_failed { result ≡ Err SpawnFailed → 0 < vec_len jobs }
         { run_in(rt, scope, alloc, jobs, gate, side) },
