@@ -1,10 +1,12 @@
 -- What a source takes of its ingress, and gives.
-use Rattle.std.proofs.Common.{◌≡◌, ◌∷◌, Err, List, None, Ok, Option, Some, [], ap, option_map, refl, suc, take, ℕ}
+use lib.Seq.{take-append_seam}
+use Rattle.std.proofs.lemmas.List.{map-append}
+use Rattle.std.proofs.Common.{◌+◌, ◌++◌, ◌-◌, ◌∙◌, ◌≡◌, ◌∷◌, Err, List, None, Ok, Option, Result, Some, [], ap, append-nil, arith, drop, length, length-append, option_map, refl, suc, sym, take, ℕ}
 use Rattle.dispatch.specs.declared.device.Failed.{Failed}
 use Rattle.dispatch.specs.Device.{Gives}
 use Rattle.serve_devices.specs.Devices.{datagrams_of}
-use Rattle.serve_devices.specs.Ingress.{Receive}
-use Rattle.serve_devices.specs.body.Ahead.{with_ahead}
+use Rattle.serve_devices.specs.Ingress.{HasGiven, IsNext, Receive, cut_to}
+use Rattle.serve_devices.specs.body.Ahead.{ComesAfter, IsLast, past_of, with_ahead}
 
 -- a datagram that was taken first is given
 pub gives_taken : (left left' room size : ℕ) (bytes copied : List ℕ) (before after : Option (List Receive)) → left ≡ suc left'
@@ -19,3 +21,25 @@ pub gives_failure : (left left' room : ℕ) (fault : Failed) (bytes : List ℕ) 
     → Gives room (option_map (datagrams_of left) before) (option_map (datagrams_of left') after) []
 gives_failure left left' room fault bytes before None more is = rw (is) tt
 gives_failure left left' room fault bytes before (Some later) more is = rw (is, more) ([], refl, refl)
+
+-- a receive, cut to its buffer, is what was found
+found_cut : {E : Type 0} (bytes : List ℕ) (found : Option (Result ℕ E)) (next : List Receive) → IsNext bytes found next [] → cut_to (length bytes) next ≡ with_ahead bytes found []
+found_cut bytes (Some (Ok size)) next (whole, is, same) = ap (cut_to (length bytes)) is ∙ ap (λ (b : List ℕ). Some b ∷ []) (sym same)
+found_cut bytes (Some (Err fault)) next is = ap (cut_to (length bytes)) is
+found_cut bytes None next is = ap (cut_to (length bytes)) (sym is)
+
+-- a receive into the whole of a room leaves what it wrote
+pub whole_room : (len : ℕ) (old new : List ℕ) → len ≡ length old → length new ≡ length old → take len (new ++ drop (length new) old) ≡ new
+whole_room len old new is same = ap (λ (n : ℕ). take n (new ++ drop (length new) old)) (is ∙ sym same) ∙ take-append_seam new (drop (length new) old)
+
+-- what an ingress found now is given
+pub found_given : {E : Type 0} (old new : List ℕ) (found : Option (Result ℕ E)) (before after : Option (List Receive)) → length new ≡ length old
+    → HasGiven new found before after → ComesAfter new found (past_of {E = E} old None (Some before)) (past_of {E = E} new None (Some after))
+found_given old new found None None same given = refl
+found_given old new found None (Some past) same given = absurd given
+found_given old new found (Some earlier) None same given = absurd given
+found_given old new found (Some earlier) (Some past) same (next, is, one) =
+    let n = length new in
+    ap Some (ap (cut_to n) is ∙ (map-append (option_map (take n)) earlier next
+    ∙ (ap (λ (l : List Receive). cut_to n earlier ++ l) (found_cut new found next one)
+    ∙ ap (λ (m : ℕ). cut_to m earlier ++ with_ahead new found []) same)))

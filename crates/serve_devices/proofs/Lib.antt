@@ -1,1 +1,2 @@
+mod ChannelLemmas
 mod IngressLemmas

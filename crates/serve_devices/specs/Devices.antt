@@ -1,22 +1,24 @@
 -- What contracts see of the devices of a worker that serves (docs/SWITCH.md, "Devices of a server").
 use Rattle.std.specs.Prelude.{◌==◌, ◌-◌, ◌≡◌, ◌≤◌, ◌⊎◌, ◌∷◌, ◌^◌, if◌then◌else◌, Err, List, None, Ok, Option, Result, Some, [], false, filter_map, length, option_map, suc, take, ℕ}
 use Rattle.dispatch.specs.Device.{OutboxValue, Sent, SourceValue}
+use Rattle.ipv4_fields.specs.declared.endpoint.Endpoint.{Endpoint}
 use Rattle.member_counts.specs.Log.{Log, marked_failed, new_log}
-use Rattle.serve_devices.specs.Ingress.{IsEnded, Receive}
+use Rattle.serve_devices.specs.Ingress.{HasGiven, IsEnded, Receive}
 use Rattle.serve_devices.specs.declared.member_outbox.TheConstants.{LOG_ROOM}
 use Rattle.serve_devices.specs.declared.worker_source.TheConstants.{RECEIVE_LIMIT}
 
--- the source of a worker: how often it failed, the most receives that it still gives, its room for a datagram, and the receives
--- to come, if they are known
+-- the source of a worker: how often it failed, the most receives that it still gives, its room for a datagram, and, if they are
+-- known, the receives to come and those that it has given
 pub record WorkerSourceValue : Type 0 where
   pub failures : ℕ
   pub left : ℕ
   pub room : ℕ
   pub coming : Option (List Receive)
+  pub past : Option (List Receive)
 
--- one that gave none yet
-abbrev pub new_source : ℕ → Option (List Receive) → WorkerSourceValue
-new_source room coming = record { failures = 0; left = RECEIVE_LIMIT; room = room; coming = coming }
+-- one that gave none yet, of an ingress that gave these
+abbrev pub new_source : ℕ → Option (List Receive) → Option (List Receive) → WorkerSourceValue
+new_source room coming past = record { failures = 0; left = RECEIVE_LIMIT; room = room; coming = coming; past = past }
 
 -- the receive that was given is no longer to come: a datagram, cut to the buffer with these bytes, or a failure. At the end none
 -- is to come, and none was, except those above the limit
@@ -26,6 +28,13 @@ GivesNext bytes (Ok (Some size)) before after =
     × (take size bytes ≡ take (length bytes) whole)
 GivesNext bytes (Ok None) before after = (after.coming ≡ Some []) × ((before.left ≡ 0) ⊎ IsEnded before.coming)
 GivesNext bytes (Err fault) before after = before.coming ≡ option_map (λ (later : List Receive). None ∷ later) after.coming
+
+-- the receive that was given comes after those that were given before: a datagram, cut to the buffer with these bytes, or a failure.
+-- At the end they are no longer known
+abbrev pub GivesAfter : {E : Type 0} → List ℕ → Result (Option ℕ) E → Option (List Receive) → Option (List Receive) → Type 0
+GivesAfter {E} bytes (Ok (Some size)) before after = HasGiven {E = E} bytes (Some (Ok size)) before after
+GivesAfter bytes (Ok None) before after = after ≡ None
+GivesAfter bytes (Err fault) before after = HasGiven bytes (Some (Err fault)) before after
 
 -- the datagrams of this many first receives
 abbrev pub datagrams_of : ℕ → List Receive → List (List ℕ)
@@ -48,6 +57,11 @@ MOST_FAILURES = 2 ^ 64 - 1
 -- an outbox that failed this often. Once it cannot count another failure, it no longer shows what was sent
 abbrev pub outbox_with : ℕ → Option (List Sent) → OutboxValue
 outbox_with failures taken = record { failures = failures; taken = if failures == MOST_FAILURES then None else taken }
+
+-- the datagrams that an egress took whole, whose call took this many bytes
+abbrev pub whole_of : {E : Type 0} → Result ℕ E → Endpoint → List ℕ → List Sent
+whole_of (Ok size) to bytes = if size == length bytes then record { to = to; bytes = bytes } ∷ [] else []
+whole_of (Err fault) to bytes = []
 
 -- an outbox that counts by member: how often it failed, what was sent, and what it has not handed on
 pub record MemberOutboxValue : Type 0 where

@@ -1,5 +1,5 @@
 -- What contracts see of a device that receives datagrams: the receives that are still to come.
-use Rattle.std.specs.Prelude.{◌≡◌, ◌∷◌, Err, List, None, Ok, Option, Result, Some, [], length, map, option_map, take, ℕ}
+use Rattle.std.specs.Prelude.{◌≡◌, ◌++◌, ◌∷◌, Err, List, None, Ok, Option, Result, Some, [], length, map, option_map, take, ℕ}
 
 -- a receive: a datagram, or a failure
 abbrev pub Receive : Type 0
@@ -17,6 +17,14 @@ GivesReceive bytes found None None = Unit {0}
 GivesReceive bytes found None (Some later) = ⊥
 GivesReceive bytes found (Some coming) None = ⊥
 GivesReceive bytes found (Some coming) (Some later) = IsNext bytes found coming later
+
+-- a receive into a buffer found this, and left these bytes in it; it comes after those that were given before it. They are known
+-- before and after it, or neither before nor after
+abbrev pub HasGiven : {E : Type 0} → List ℕ → Option (Result ℕ E) → Option (List Receive) → Option (List Receive) → Type 0
+HasGiven bytes found None None = Unit {0}
+HasGiven bytes found None (Some past) = ⊥
+HasGiven bytes found (Some earlier) None = ⊥
+HasGiven bytes found (Some earlier) (Some past) = (next : List Receive) × (past ≡ earlier ++ next) × IsNext bytes found next []
 
 -- none is to come, if that is known
 abbrev pub IsEnded : Option (List Receive) → Type 0

@@ -1,3 +1,4 @@
+pub mod Channel
 pub mod Devices
 pub mod Ingress
 pub mod Queues

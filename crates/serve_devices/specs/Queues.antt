@@ -1,11 +1,47 @@
--- What contracts see of the queues of all workers.
-use Rattle.std.specs.Prelude.{◌%◌, ◌+◌, ℕ}
+-- What contracts see of a worker's queue, and of the queues of all workers.
+use Rattle.std.specs.Prelude.{◌%◌, ◌+◌, ◌≡◌, ◌⊎◌, IsSome, List, Some, false, length, slice_get, slice_set, ℕ}
+use Rattle.serve_devices.specs.Channel.{AreOneChannel, HasPut, IsSameReceiver, IsSameSender, put_by, taken_from}
+use Rattle.serve_devices.specs.Ingress.{Receive}
+use Rattle.serve_devices.specs.declared.queue_ingress.QueueIngress.{QueueIngress}
+use Rattle.serve_devices.specs.declared.worker_queues.WorkerQueue.{WorkerQueue}
 
--- the number of workers, and the worker whose turn it is, counted from 0
+-- what was put for the worker, in order
+abbrev pub put_for : WorkerQueue → List Receive
+put_for queue = put_by queue.arriving
+
+-- its worker is known to have ended
+abbrev pub HasEnded : WorkerQueue → Type 0
+HasEnded queue = queue.takes_more ≡ false
+
+-- this receive was put for the worker; or none was, since the worker has ended, or since memory for a datagram was refused
+abbrev pub Arrives : WorkerQueue → WorkerQueue → Receive → Type 0
+Arrives before after receive =
+    HasPut before.arriving after.arriving receive ⊎ (IsSameSender before.arriving after.arriving × (HasEnded after ⊎ IsSome receive))
+
+abbrev pub IsSameQueue : WorkerQueue → WorkerQueue → Type 0
+IsSameQueue before after = IsSameSender before.arriving after.arriving
+
+module _ {R : Type 0} where
+  -- what the end of a queue has given, in order
+  abbrev pub given_by : QueueIngress R → List Receive
+  given_by ingress = taken_from ingress.arriving
+
+  abbrev pub AreOneQueue : QueueIngress R → WorkerQueue → Type 0
+  AreOneQueue ingress queue = AreOneChannel queue.arriving ingress.arriving
+
+  abbrev pub IsSameIngress : QueueIngress R → QueueIngress R → Type 0
+  IsSameIngress before after = IsSameReceiver before.arriving after.arriving
+
+-- the queue of each worker, and the worker whose turn it is, counted from 0
 pub record QueuesValue : Type 0 where
-  pub workers : ℕ
+  pub queues : List WorkerQueue
   pub turn : ℕ
 
 -- it is the next worker's turn, after the last one's the first's
-abbrev pub next_turn : QueuesValue → QueuesValue
-next_turn queues = record queues { turn = (queues.turn + 1) % queues.workers }
+abbrev pub next_turn : QueuesValue → ℕ
+next_turn queues = (queues.turn + 1) % length queues.queues
+
+-- the receive was put for the worker whose turn it is, or for none, and nothing else was put
+abbrev pub HandsOn : QueuesValue → QueuesValue → Receive → Type 0
+HandsOn before after receive =
+    (old new : WorkerQueue) × (slice_get before.queues before.turn ≡ Some old) × (after.queues ≡ slice_set before.queues before.turn new) × Arrives old new receive

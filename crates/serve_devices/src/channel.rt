@@ -1,80 +1,151 @@
 //! A bounded channel from one thread to another. Once it is made it takes no lock and no memory.
 
-ghost use Rattle.std.specs.Prelude.{◌<◌};
-ghost use Rattle.crossbeam_channel.specs.Claims.{IsSeatAt};
+ghost use Rattle.std.specs.Prelude.{◌≡◌, ◌⊎◌, MatchOption, false, true};
+ghost use Rattle.crossbeam_channel.specs.Claims.{IsSeatAt, view};
 ghost use Rattle.crossbeam_channel.specs.Ends.{receives_on, sends_on};
 
-use crossbeam_channel::protocol::{Free, Split};
-use crossbeam_channel::{Pass, RuledReceiver, RuledSender, bounded_with};
-use std::alloc::{AllocError, Global};
+mod pair;
+
+use crossbeam_channel::protocol::{Join, Lesson, Outcome, Protocol, Split};
+use crossbeam_channel::{Pass, RuledReceiver, RuledSender};
+pub use pair::{open_channel, taken_first};
+use std::alloc::Global;
+use std::collections::LinkedList;
 use std::sync::Wait;
 
-// Gives each end a pass of its own, under the rule that asks nothing.
+// What a pass may do, what was put by it, and what was taken by it. No value of it is made.
+pub struct Share<T> {
+    pub puts: bool,
+    pub takes: bool,
+    pub put: LinkedList<T>,
+    pub taken: LinkedList<T>,
+}
+
+// The rule: what was put is what was taken, and then what the channel holds.
+struct InOrder;
+
+impl<T> Protocol<T, Share<T>> for InOrder {
+    ghost use Rattle.std.specs.Prelude.{[], true};
+    ghost use Rattle.serve_devices.specs.body.InOrder.{IsInOrder, share};
+
+    ghost holds = { IsInOrder };
+
+    ghost first = { share true true [] [] };
+}
+
+// Gives one end the right to put and the other the right to take, and takes both back.
 struct Ends;
 
-impl Split<()> for Ends {
-    ghost left = { λ _. tt };
+impl<T> Split<Share<T>> for Ends {
+    ghost use Rattle.std.specs.Prelude.{[], false, true};
+    ghost use Rattle.serve_devices.specs.body.InOrder.{share};
 
-    ghost right = { λ _. tt };
+    ghost left = { λ v. share true false v.put [] };
+
+    ghost right = { λ v. share false true [] v.taken };
 }
 
-/// The end of a channel into which values are put.
+impl<T> Join<Share<T>> for Ends {
+    ghost use Rattle.std.specs.Prelude.{[], false, true};
+    ghost use Rattle.serve_devices.specs.body.InOrder.{share};
+
+    ghost both = { λ v w. share true true v.put w.taken };
+
+    ghost spent = { share false false [] [] };
+}
+
+struct Puts;
+
+impl<T> Outcome<T, Share<T>> for Puts {
+    ghost use Rattle.std.specs.Prelude.{◌≡◌, ◌++◌, ◌∷◌, []};
+    ghost use Rattle.serve_devices.specs.body.InOrder.{share};
+
+    ghost then = { λ v x w. w ≡ share v.puts v.takes (v.put ++ x ∷ []) v.taken };
+}
+
+impl<T> Lesson<T, Share<T>> for Puts {
+    ghost use Rattle.std.specs.Prelude.{⊤};
+
+    ghost fact = { λ v items. ⊤ };
+}
+
+struct Takes;
+
+impl<T> Outcome<T, Share<T>> for Takes {
+    ghost use Rattle.std.specs.Prelude.{◌≡◌, ◌++◌, ◌∷◌, []};
+    ghost use Rattle.serve_devices.specs.body.InOrder.{share};
+
+    ghost then = { λ v x w. w ≡ share v.puts v.takes v.put (v.taken ++ x ∷ []) };
+}
+
+impl<T> Lesson<T, Share<T>> for Takes {
+    ghost use Rattle.std.specs.Prelude.{⊤};
+
+    ghost fact = { λ v items. ⊤ };
+}
+
+// What is learned by who may do both.
+struct Rest;
+
+impl<T> Lesson<T, Share<T>> for Rest {
+    ghost use Rattle.std.specs.Prelude.{◌≡◌, ◌++◌};
+
+    ghost fact = { λ v items. v.put ≡ v.taken ++ items };
+}
+
+/// The end of a channel into which values are put. Contracts see what was put.
 #[derive(Drop)]
 pub struct ChannelSender<T: Drop> {
-    end: RuledSender<T, (), Free, Global>,
-    pass: Pass<T, ()>,
+    end: RuledSender<T, Share<T>, InOrder, Global>,
+    pass: Pass<T, Share<T>>,
     ghost seat: { IsSeatAt (sends_on end) pass },
+    ghost right: { (view pass).puts ≡ true },
 }
 
-/// The end from which values are taken, in the order in which they were put in.
+/// The end from which values are taken. Contracts see what was taken.
 #[derive(Drop)]
 pub struct ChannelReceiver<T: Drop> {
-    end: RuledReceiver<T, (), Free, Global>,
-    pass: Pass<T, ()>,
+    end: RuledReceiver<T, Share<T>, InOrder, Global>,
+    pass: Pass<T, Share<T>>,
     ghost seat: { IsSeatAt (receives_on end) pass },
-}
-
-/// Opens a channel for at most `places` values. Takes its memory from the allocator.
-pub fn open_channel<T: Drop>(
-    alloc: Global,
-    places: usize,
-) -> Result<(ChannelSender<T>, ChannelReceiver<T>), AllocError>
-    requires { 0 < places }
-{
-    // The reason: docs/INTERNALS.md, "Queues".
-    let (sender, receiver, mut pass) = bounded_with::<T, (), Free, Global>(alloc, places)?;
-    let other = sender.another::<Ends>(&mut pass);
-    Ok((
-        ChannelSender { end: sender, pass },
-        ChannelReceiver {
-            end: receiver,
-            pass: other,
-        },
-    ))
+    ghost right: { (view pass).takes ≡ true },
 }
 
 impl<T: Drop> ChannelSender<T> {
+    ghost use Rattle.serve_devices.specs.Channel.{HasPut, IsSameSender};
+
     /// Puts a value in, and waits for a place. False if the other end is gone; then the value is dropped.
-    pub fn put<R: Wait>(&mut self, rt: &R, value: T) -> bool {
+    pub fn put<R: Wait>(&mut self, rt: &R, value: T) -> bool
+        ensures put { result ≡ true → HasPut self.old self.new value }
+        ensures kept { result ≡ false → IsSameSender self.old self.new }
+    {
         self.end
-            .send_as::<Free, R>(rt, &mut self.pass, value)
+            .send_as::<Puts, R>(rt, &mut self.pass, value)
             .is_ok()
     }
 
     /// Puts a value in if there is a place for it, and otherwise drops it.
-    pub fn offer<R: Wait>(&mut self, rt: &R, value: T) {
-        let _ = self.end.try_send_as::<Free, R>(rt, &mut self.pass, value);
+    pub fn offer<R: Wait>(&mut self, rt: &R, value: T)
+        ensures put_or_kept { HasPut self.old self.new value ⊎ IsSameSender self.old self.new }
+    {
+        let _ = self.end.try_send_as::<Puts, R>(rt, &mut self.pass, value);
     }
 }
 
 impl<T: Drop> ChannelReceiver<T> {
+    ghost use Rattle.serve_devices.specs.Channel.{HasTaken, IsSameReceiver};
+
     /// Takes the next value, and waits for it. `None` if there is none and the other end is gone.
-    pub fn take<R: Wait>(&mut self, rt: &R) -> Option<T> {
-        self.end.recv_as::<Free, R>(rt, &mut self.pass).ok()
+    pub fn take<R: Wait>(&mut self, rt: &R) -> Option<T>
+        ensures taken { MatchOption result (IsSameReceiver self.old self.new) (HasTaken self.old self.new) }
+    {
+        self.end.recv_as::<Takes, R>(rt, &mut self.pass).ok()
     }
 
     /// Takes the next value, if there is one.
-    pub fn poll<R: Wait>(&mut self, rt: &R) -> Option<T> {
-        self.end.try_recv_as::<Free, R>(rt, &mut self.pass).ok()
+    pub fn poll<R: Wait>(&mut self, rt: &R) -> Option<T>
+        ensures taken { MatchOption result (IsSameReceiver self.old self.new) (HasTaken self.old self.new) }
+    {
+        self.end.try_recv_as::<Takes, R>(rt, &mut self.pass).ok()
     }
 }

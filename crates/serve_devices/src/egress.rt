@@ -1,7 +1,8 @@
 //! Sending datagrams (docs/SWITCH.md, "Devices of a server").
 
 ghost use Rattle.std.specs.Prelude.{◌≡◌, List, Option};
-ghost use Rattle.dispatch.specs.Device.{Sent, Takes, taken_by};
+ghost use Rattle.dispatch.specs.Device.{Sent, Takes};
+ghost use Rattle.serve_devices.specs.Devices.{whole_of};
 
 use dispatch::Failed;
 use ipv4_fields::Endpoint;
@@ -15,18 +16,18 @@ use std::time::Duration;
 // The time that a send waits before the flag is read again, in milliseconds.
 const SEND_TURN: u64 = 50;
 
-/// A device that sends datagrams. Contracts see what was sent, if it is known, without the sends that failed.
+/// A device that sends datagrams. Contracts see what was sent, if it is known, without the sends that failed or were cut.
 pub trait Egress {
     ghost taken: { Self → Option (List Sent) };
 
-    /// Sends the bytes as one datagram.
-    fn transmit(&mut self, to: Endpoint, bytes: &[u8]) -> Result<(), Failed>
-        ensures sent_once { Takes (taken self.old) (taken self.new) (taken_by result to bytes.now) };
+    /// Sends the bytes as one datagram, and returns how many of them were taken.
+    fn transmit(&mut self, to: Endpoint, bytes: &[u8]) -> Result<usize, Failed>
+        ensures sent_once { Takes (taken self.old) (taken self.new) (whole_of result to bytes.now) };
 }
 
 /// A UDP socket to send by. The datagrams that it took are not known.
 ///
-/// A send fails if the socket refuses it, or takes fewer bytes than there are. It waits for room in the socket's buffer
+/// A send fails if the socket refuses it. It waits for room in the socket's buffer
 /// until a flag is set; from then on a send that would wait fails. A member on the same link that is down fills the
 /// buffer for seconds at a time.
 #[derive(Drop)]
@@ -66,10 +67,10 @@ impl<'a, R: Wait> Egress for SocketEgress<'a, R> {
 
     ghost taken = { λ _. None };
 
-    fn transmit(&mut self, to: Endpoint, bytes: &[u8]) -> Result<(), Failed> {
+    fn transmit(&mut self, to: Endpoint, bytes: &[u8]) -> Result<usize, Failed> {
         for _ in self.rt.forever() {
             match self.socket.send_to(bytes, to.socket_address()) {
-                Ok(size) if size == bytes.len() => return Ok(()),
+                Ok(size) => return Ok(size),
                 Err(error) if error.kind() == ErrorKind::Interrupted => {}
                 Err(error) if error.kind() == ErrorKind::WouldBlock => {
                     if self.gives_up() {

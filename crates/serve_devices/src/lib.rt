@@ -21,7 +21,7 @@ mod socket_outbox;
 mod worker_queues;
 mod worker_source;
 
-pub use channel::{ChannelReceiver, ChannelSender, open_channel};
+pub use channel::{ChannelReceiver, ChannelSender, open_channel, taken_first};
 pub use egress::{Egress, SocketEgress};
 pub use ingress::Ingress;
 pub use member_outbox::{LOG_ROOM, MemberOutbox, SharedCounts};
@@ -30,5 +30,7 @@ pub use queue_ingress::QueueIngress;
 pub use received::Received;
 pub use socket_ingress::{SocketIngress, StopReceiving};
 pub use socket_outbox::SocketOutbox;
-pub use worker_queues::{QUEUE_PLACES, WorkerQueue, WorkerQueues, limits_as_numbers, open_queue};
+pub use worker_queues::{
+    QUEUE_PLACES, WorkerQueue, WorkerQueues, given_first, limits_as_numbers, open_queue,
+};
 pub use worker_source::{RECEIVE_LIMIT, WorkerSource};

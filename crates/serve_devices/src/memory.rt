@@ -46,9 +46,11 @@ impl Receives {
 
 /// No more come once all were received.
 impl Ingress for Receives {
-    ghost use Rattle.std.specs.Prelude.{Some};
+    ghost use Rattle.std.specs.Prelude.{None, Some};
 
     ghost coming = { λ r. Some r };
+
+    ghost past = { λ _. None };
 
     fn receive(&mut self, buf: &mut [u8]) -> Option<Result<usize, Failed>> {
         let received = self.waiting.pop_front()?;
@@ -66,7 +68,8 @@ impl Egress for Sends {
 
     ghost taken = { λ s. told s };
 
-    fn transmit(&mut self, to: Endpoint, bytes: &[u8]) -> Result<(), Failed> {
-        self.send(to, bytes)
+    fn transmit(&mut self, to: Endpoint, bytes: &[u8]) -> Result<usize, Failed> {
+        self.send(to, bytes)?;
+        Ok(bytes.len())
     }
 }

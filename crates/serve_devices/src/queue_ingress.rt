@@ -1,16 +1,18 @@
 //! The end of a worker's queue, to which another thread sends its receives through a channel
 //! (docs/SWITCH.md, "Devices of a server").
 
-ghost use Rattle.std.specs.Prelude.{◌≡◌, ◌↔◌, ◌++◌, IfOk, IfSome, IsErr, None, OnErr, drop, length, min, take};
+ghost use Rattle.std.specs.Prelude.{◌≡◌, ◌↔◌, ◌++◌, ◌∷◌, IfOk, IfSome, IsErr, None, OnErr, Some, [], drop, length, min, take};
+ghost use Rattle.serve_devices.specs.Channel.{AreOneChannel, IsFirstOf, IsSameReceiver, IsSameSender, put_by, taken_from};
+ghost use Rattle.serve_devices.specs.Ingress.{IsNext};
 
-use crate::channel::{ChannelReceiver, ChannelSender};
+use crate::channel::{ChannelReceiver, ChannelSender, taken_first};
 use crate::ingress::Ingress;
 use crate::received::Received;
 use dispatch::Failed;
 use std::sync::Wait;
 
 /// The end of a queue. No more receives come once it is empty and the other side is gone. The receives to come are not
-/// known.
+/// known, but those that it has given are: what it took from the queue.
 #[derive(Drop)]
 pub struct QueueIngress<'a, R: Wait> {
     rt: &'a R,
@@ -25,12 +27,33 @@ impl<'a, R: Wait> QueueIngress<'a, R> {
         rt: &'a R,
         arriving: ChannelReceiver<Received>,
         opened: ChannelSender<Received>,
-    ) -> QueueIngress<'a, R> {
+    ) -> QueueIngress<'a, R>
+        ensures end { IsSameReceiver arriving result.arriving }
+    {
         QueueIngress {
             rt,
             arriving,
             opened,
         }
+    }
+
+    // Its channel, beside the channel's other end.
+    pub(crate) fn beside(
+        self,
+        sender: ChannelSender<Received>,
+    ) -> (QueueIngress<'a, R>, ChannelSender<Received>)
+        requires one_channel { AreOneChannel sender self.arriving }
+        ensures first { IsFirstOf (taken_from self.entry.arriving) (put_by sender) }
+        ensures same_receiver { IsSameReceiver self.entry.arriving result.0.arriving }
+        ensures same_sender { IsSameSender sender result.1 }
+    {
+        let QueueIngress {
+            rt,
+            arriving,
+            opened,
+        } = self;
+        let (sender, arriving) = taken_first(sender, arriving);
+        (QueueIngress::new(rt, arriving, opened), sender)
     }
 
     // Opens a receive into the buffer, and sends it back.
@@ -39,6 +62,8 @@ impl<'a, R: Wait> QueueIngress<'a, R> {
         ensures size { IfOk result (λ size. IfSome received (λ datagram. size ≡ min (length datagram) (length buf.old))) }
         ensures copied { IfOk result (λ size. IfSome received (λ datagram. buf.new ≡ take size datagram ++ drop size buf.old)) }
         ensures kept { OnErr result (buf.new ≡ buf.old) }
+        ensures next { IsNext buf.new (Some result) (received ∷ []) [] }
+        ensures end { self.new.arriving ≡ self.old.arriving }
     {
         let size = received.open(buf);
         self.opened.offer(self.rt, received);
@@ -47,9 +72,12 @@ impl<'a, R: Wait> QueueIngress<'a, R> {
 }
 
 impl<'a, R: Wait> Ingress for QueueIngress<'a, R> {
-    ghost use Rattle.std.specs.Prelude.{None};
+    ghost use Rattle.std.specs.Prelude.{None, Some};
+    ghost use Rattle.serve_devices.specs.Channel.{taken_from};
 
     ghost coming = { λ _. None };
+
+    ghost past = { λ q. Some (taken_from q.arriving) };
 
     fn receive(&mut self, buf: &mut [u8]) -> Option<Result<usize, Failed>> {
         let received = self.arriving.take(self.rt)?;

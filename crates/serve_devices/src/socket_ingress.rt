@@ -56,6 +56,8 @@ impl<'a, R: Wait> Ingress for SocketIngress<'a, R> {
 
     ghost coming = { λ _. None };
 
+    ghost past = { λ _. None };
+
     // Once the socket is shut down and empty, a receive that waits ends as if an empty datagram had come, so the flag
     // is read again.
     fn receive(&mut self, buf: &mut [u8]) -> Option<Result<usize, Failed>> {

@@ -1,6 +1,7 @@
 //! The outbox of a worker: a UDP socket of its own.
 
 ghost use Rattle.std.specs.Prelude.{◌≡◌};
+ghost use Rattle.dispatch.specs.Device.{Takes, taken_by};
 ghost use Rattle.serve_devices.specs.Devices.{outbox_with};
 
 use crate::egress::Egress;
@@ -8,7 +9,7 @@ use dispatch::{Failed, Outbox};
 use ipv4_fields::Endpoint;
 use std::marker::Model;
 
-/// An outbox over an egress, such as a socket. A send fails if the egress fails.
+/// An outbox over an egress, such as a socket. A send fails if the egress fails, or takes fewer bytes than there are.
 ///
 /// Contracts see how often it failed, and what was sent, if the egress shows it. After 2^64 - 1 failures it sends no
 /// more, returns as if all were sent, and no longer shows what was sent.
@@ -25,6 +26,16 @@ impl<E: Egress + Drop> Model for SocketOutbox<E> {
     ghost Value = { OutboxValue };
 
     ghost view = { λ o. outbox_with o.failures (E.taken o.egress) };
+}
+
+// Sends. A datagram that was not taken whole is a send that failed.
+fn transmit_whole<E: Egress>(egress: &mut E, to: Endpoint, bytes: &[u8]) -> Result<(), Failed>
+    ensures { Takes (E.taken egress.old) (E.taken egress.new) (taken_by result to bytes.now) }
+{
+    match egress.transmit(to, bytes) {
+        Ok(size) if size == bytes.len() => Ok(()),
+        _ => Err(Failed),
+    }
 }
 
 impl<E: Egress + Drop> SocketOutbox<E> {
@@ -46,7 +57,7 @@ impl<E: Egress + Drop> Outbox for SocketOutbox<E> {
         if self.failures == u64::MAX {
             return Ok(());
         }
-        let sent = self.egress.transmit(to, bytes);
+        let sent = transmit_whole(&mut self.egress, to, bytes);
         if sent.is_err() {
             self.failures += 1;
         }

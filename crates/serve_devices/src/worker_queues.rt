@@ -1,12 +1,13 @@
 //! The queues by which the thread that receives hands its receives to each worker in turn.
 
-ghost use Rattle.std.specs.Prelude.{◌≡◌, ◌<◌, IfOk, vec_len};
+ghost use Rattle.std.specs.Prelude.{◌≡◌, ◌<◌, ◌⊎◌, IfOk, IsErr, IsSome, OnOk, [], vec_len};
 ghost use Rattle.std.specs.Option.{option_map};
-ghost use Rattle.serve_devices.specs.Queues.{next_turn};
+ghost use Rattle.serve_devices.specs.Channel.{HasPut, IsFirstOf};
+ghost use Rattle.serve_devices.specs.Queues.{AreOneQueue, Arrives, HandsOn, HasEnded, IsSameIngress, IsSameQueue, given_by, next_turn, put_for};
 ghost use Rattle.serve_devices.specs.declared.member_outbox.TheConstants.{LOG_ROOM};
 ghost use Rattle.serve_devices.specs.declared.worker_source.TheConstants.{RECEIVE_LIMIT};
 
-use crate::channel::{ChannelReceiver, ChannelSender, open_channel};
+use crate::channel::{ChannelReceiver, ChannelSender, open_channel, taken_first};
 use crate::queue_ingress::QueueIngress;
 use crate::received::Received;
 use crate::worker_source::RECEIVE_LIMIT;
@@ -37,7 +38,11 @@ pub struct WorkerQueue {
 pub fn open_queue<R: Wait>(
     rt: &R,
     alloc: Global,
-) -> Result<(QueueIngress<'_, R>, WorkerQueue), AllocError> {
+) -> Result<(QueueIngress<'_, R>, WorkerQueue), AllocError>
+    ensures one_queue { IfOk result (λ ends. AreOneQueue ends.0 ends.1) }
+    ensures none_put { IfOk result (λ ends. put_for ends.1 ≡ []) }
+    ensures none_given { IfOk result (λ ends. given_by ends.0 ≡ []) }
+{
     let (arriving, at_worker) = open_channel(alloc, QUEUE_PLACES)?;
     let (from_worker, opened) = open_channel(alloc, QUEUE_PLACES)?;
     let queue = WorkerQueue {
@@ -48,9 +53,36 @@ pub fn open_queue<R: Wait>(
     Ok((QueueIngress::new(rt, at_worker, from_worker), queue))
 }
 
+/// Law: what the end of a queue has given is, in order, the first of what was put for its worker. It takes both, and
+/// gives them back.
+pub fn given_first<'a, R: Wait>(
+    ingress: QueueIngress<'a, R>,
+    queue: WorkerQueue,
+) -> (QueueIngress<'a, R>, WorkerQueue)
+    requires one_queue { AreOneQueue ingress queue }
+    ensures first { IsFirstOf (given_by ingress.entry) (put_for queue) }
+    ensures same_ingress { IsSameIngress ingress.entry result.0 }
+    ensures same_queue { IsSameQueue queue result.1 }
+{
+    let WorkerQueue {
+        arriving,
+        opened,
+        takes_more,
+    } = queue;
+    let (ingress, arriving) = ingress.beside(arriving);
+    let queue = WorkerQueue {
+        arriving,
+        opened,
+        takes_more,
+    };
+    (ingress, queue)
+}
+
 impl WorkerQueue {
     // A receive that was opened, or a new one.
-    fn spare<R: Wait>(&mut self, rt: &R, alloc: Global) -> Received {
+    fn spare<R: Wait>(&mut self, rt: &R, alloc: Global) -> Received
+        ensures arriving { self.new.arriving ≡ self.old.arriving }
+    {
         match self.opened.poll(rt) {
             Some(received) => received,
             None => Received::new(alloc),
@@ -64,7 +96,9 @@ impl WorkerQueue {
         alloc: Global,
         datagram: Option<&[u8]>,
     ) -> Result<Received, AllocError>
-        ensures { IfOk result (λ received. received ≡ option_map (λ bytes. bytes.now) datagram.entry) }
+        ensures received { IfOk result (λ received. received ≡ option_map (λ bytes. bytes.now) datagram.entry) }
+        ensures refused { IsErr result → IsSome (option_map (λ bytes. bytes.now) datagram.entry) }
+        ensures arriving { self.new.arriving ≡ self.old.arriving }
     {
         let mut received = self.spare(rt, alloc);
         match datagram {
@@ -75,17 +109,27 @@ impl WorkerQueue {
     }
 
     // Waits for a place, but not for a worker that ended.
-    fn arrive<R: Wait>(&mut self, rt: &R, alloc: Global, datagram: Option<&[u8]>) {
+    fn arrive<R: Wait>(
+        &mut self,
+        rt: &R,
+        alloc: Global,
+        datagram: Option<&[u8]>,
+    ) -> Result<(), AllocError>
+        ensures arrives { Arrives self.old self.new (option_map (λ bytes. bytes.now) datagram.entry) }
+        ensures put { OnOk result (HasPut self.old.arriving self.new.arriving (option_map (λ bytes. bytes.now) datagram.entry) ⊎ HasEnded self.new) }
+    {
         if !self.takes_more {
-            return;
+            return Ok(());
         }
-        if let Ok(received) = self.received(rt, alloc, datagram) {
-            self.takes_more = self.arriving.put(rt, received);
-        }
+        let Ok(received) = self.received(rt, alloc, datagram) else {
+            return Err(AllocError);
+        };
+        self.takes_more = self.arriving.put(rt, received);
+        Ok(())
     }
 }
 
-/// The queues of all workers. Contracts see how many they are, and whose turn it is.
+/// The queues of all workers. Contracts see each with what was put for its worker, and whose turn it is.
 #[derive(Drop)]
 pub struct WorkerQueues {
     alloc: Global,
@@ -99,7 +143,7 @@ impl Model for WorkerQueues {
 
     ghost Value = { QueuesValue };
 
-    ghost view = { λ q. record { workers = vec_len q.queues; turn = q.turn } };
+    ghost view = { λ q. record { queues = q.queues.items; turn = q.turn } };
 
     ghost invariant = { λ q. q.turn < vec_len q.queues };
 }
@@ -108,7 +152,7 @@ impl WorkerQueues {
     /// Returns the queues; it is the first worker's turn. The allocator is that of the receives.
     pub fn new(alloc: Global, queues: Vec<WorkerQueue>) -> WorkerQueues
         requires some { 0 < vec_len queues }
-        ensures first { result ≡ record { workers = vec_len queues; turn = 0 } }
+        ensures first { result ≡ record { queues = queues.items; turn = 0 } }
     {
         WorkerQueues {
             alloc,
@@ -117,15 +161,24 @@ impl WorkerQueues {
         }
     }
 
+    /// Returns the queues, each with what was put for its worker.
+    pub fn into_queues(self) -> Vec<WorkerQueue>
+        ensures same { result.items ≡ self.queues }
+    {
+        let WorkerQueues { queues, .. } = self;
+        queues
+    }
+
     /// Hands a datagram, or none for a receive that failed, to the worker whose turn it is, and waits for a place.
     ///
     /// A receive for a worker that ended is dropped, and so is a datagram for which memory was refused; each takes a
     /// turn.
     pub fn arrive<R: Wait>(&mut self, rt: &R, datagram: Option<&[u8]>)
-        ensures turn { self.new ≡ next_turn self.old }
+        ensures turn { self.new.turn ≡ next_turn self.old }
+        ensures handed_on { HandsOn self.old self.new (option_map (λ bytes. bytes.now) datagram.entry) }
     {
         let turn = self.turn;
-        self.queues[turn].arrive(rt, self.alloc, datagram);
+        let _ = self.queues[turn].arrive(rt, self.alloc, datagram);
         self.turn = (turn + 1) % self.queues.len();
     }
 }

@@ -2,9 +2,9 @@
 
 ghost use Rattle.std.specs.Prelude.{◌≡◌, ◌≢◌, ◌≤◌, IfOk, IfSome, None, Some, [], false, length, option_map, take};
 ghost use Rattle.dispatch.specs.Device.{CountsFailure, Gives, IsAtEnd, given_in};
-ghost use Rattle.serve_devices.specs.Devices.{CountsReceive, GivesNext, new_source, source_of};
+ghost use Rattle.serve_devices.specs.Devices.{CountsReceive, GivesAfter, GivesNext, new_source, source_of};
 ghost use Rattle.serve_devices.specs.Ingress.{IsEnded, cut_to};
-ghost use Rattle.serve_devices.specs.body.Ahead.{coming_of, with_ahead};
+ghost use Rattle.serve_devices.specs.body.Ahead.{ComesAfter, IsLast, coming_of, past_of, with_ahead};
 
 use crate::ingress::Ingress;
 use dispatch::{COUNT_LIMIT, Failed, Source};
@@ -18,7 +18,7 @@ pub const RECEIVE_LIMIT: u64 = COUNT_LIMIT / 2 - 1;
 /// A source over an ingress. It ends when the ingress does, and after `RECEIVE_LIMIT` receives; then it drops the ingress.
 ///
 /// `would_wait` receives ahead, so a datagram that is there already costs one receive in all. Contracts see how often the source failed,
-/// how many receives it still gives at most, and the receives to come.
+/// how many receives it still gives at most, the receives to come, and those that it has given.
 #[derive(Drop)]
 pub struct WorkerSource<I: Ingress + Drop> {
     // None at the end.
@@ -33,7 +33,7 @@ pub struct WorkerSource<I: Ingress + Drop> {
 impl<I: Ingress + Drop> Model for WorkerSource<I> {
     ghost use Rattle.std.specs.Prelude.{◌+◌, ◌≤◌, IfOk, IfSome, length, option_map};
     ghost use Rattle.serve_devices.specs.Devices.{WorkerSourceValue};
-    ghost use Rattle.serve_devices.specs.body.Ahead.{coming_of};
+    ghost use Rattle.serve_devices.specs.body.Ahead.{IsLast, coming_of, past_of};
     ghost use Rattle.serve_devices.specs.declared.worker_source.TheConstants.{RECEIVE_LIMIT};
 
     ghost Value = { WorkerSourceValue };
@@ -43,10 +43,12 @@ impl<I: Ingress + Drop> Model for WorkerSource<I> {
       left = s.left;
       room = length s.room.items;
       coming = coming_of s.room.items s.ahead (option_map I.coming s.ingress);
+      past = past_of s.room.items s.ahead (option_map I.past s.ingress);
     } };
 
     ghost invariant = { λ s.
-        (s.failures + s.left ≤ RECEIVE_LIMIT) × IfSome s.ahead (λ received. IfOk received (λ size. size ≤ length s.room.items)) };
+        (s.failures + s.left ≤ RECEIVE_LIMIT) × IfSome s.ahead (λ received. IfOk received (λ size. size ≤ length s.room.items))
+        × IsLast s.room.items s.ahead (option_map I.past s.ingress) };
 }
 
 // Copies the bytes into the front of the buffer, cut to it, and returns how many were copied.
@@ -66,11 +68,14 @@ fn take_next<I: Ingress>(
     room: &mut Vec<u8>,
 ) -> Option<Result<usize, Failed>>
     requires within { IfSome ahead.old (λ received. IfOk received (λ size. size ≤ length room.old.items)) }
+    requires last { IsLast room.old.items ahead.old (option_map I.past ingress.old) }
     ensures within { IfSome result (λ received. IfOk received (λ size. size ≤ length room.new.items)) }
     ensures room { length room.new.items ≡ length room.old.items }
     ensures ahead { ahead.new ≡ None }
     ensures given { coming_of room.old.items ahead.old (option_map I.coming ingress.old)
         ≡ option_map (with_ahead room.new.items result) (coming_of room.new.items ahead.new (option_map I.coming ingress.new)) }
+    ensures in_order { ComesAfter room.new.items result (past_of room.old.items ahead.old (option_map I.past ingress.old))
+        (past_of room.new.items ahead.new (option_map I.past ingress.new)) }
     ensures end { result ≡ None → IsEnded (coming_of room.new.items ahead.new (option_map I.coming ingress.new)) }
 {
     if let Some(received) = ahead.take() {
@@ -90,10 +95,14 @@ fn look_ahead<I: Ingress>(
     room: &mut Vec<u8>,
 )
     requires within { IfSome ahead.old (λ received. IfOk received (λ size. size ≤ length room.old.items)) }
+    requires last { IsLast room.old.items ahead.old (option_map I.past ingress.old) }
     ensures within { IfSome ahead.new (λ received. IfOk received (λ size. size ≤ length room.new.items)) }
     ensures room { length room.new.items ≡ length room.old.items }
     ensures kept { coming_of room.new.items ahead.new (option_map I.coming ingress.new)
         ≡ coming_of room.old.items ahead.old (option_map I.coming ingress.old) }
+    ensures past_kept { past_of room.new.items ahead.new (option_map I.past ingress.new)
+        ≡ past_of room.old.items ahead.old (option_map I.past ingress.old) }
+    ensures last { IsLast room.new.items ahead.new (option_map I.past ingress.new) }
 {
     if ahead.is_some() {
         return;
@@ -106,7 +115,8 @@ fn look_ahead<I: Ingress>(
 impl<I: Ingress + Drop> WorkerSource<I> {
     /// Takes the ingress, and the room for the longest datagram: a longer one is cut to it.
     pub fn new(ingress: I, room: Vec<u8>) -> WorkerSource<I>
-        ensures new { result ≡ new_source (length room.items) (option_map (cut_to (length room.items)) (I.coming ingress)) }
+        ensures new { result ≡ new_source (length room.items) (option_map (cut_to (length room.items)) (I.coming ingress))
+            (option_map (cut_to (length room.items)) (I.past ingress)) }
     {
         WorkerSource {
             ingress: Some(ingress),
@@ -119,7 +129,7 @@ impl<I: Ingress + Drop> WorkerSource<I> {
 
     // Gives no more, and drops the ingress.
     fn end(&mut self)
-        ensures ended { self.new ≡ record self.old { left = 0; coming = Some [] } }
+        ensures ended { self.new ≡ record self.old { left = 0; coming = Some []; past = None } }
     {
         self.ingress = None;
         self.ahead = None;
@@ -139,6 +149,7 @@ impl<I: Ingress + Drop> Source for WorkerSource<I> {
         ensures end { result ≡ Ok None → IsAtEnd (source_of self.new).coming }
         ensures counts_receive { CountsReceive result self.old.left self.new.left }
         ensures next { GivesNext buf.new result self.old self.new }
+        ensures in_order { GivesAfter buf.new result self.old.past self.new.past }
         ensures room { self.new.room ≡ self.old.room }
     {
         if self.left == 0 {

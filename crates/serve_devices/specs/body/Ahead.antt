@@ -1,6 +1,7 @@
--- What a source still has to give: what it received ahead, then what is to come of its ingress.
-use Rattle.std.specs.Prelude.{◌∷◌, Err, List, None, Ok, Option, Result, Some, [], length, option_map, take, ℕ}
-use Rattle.serve_devices.specs.Ingress.{Receive, cut_to}
+-- What a source still has to give: what it received ahead, then what is to come of its ingress. And what it has given: what its
+-- ingress has given, without what was received ahead.
+use Rattle.std.specs.Prelude.{◌++◌, ◌-◌, ◌≡◌, ◌∷◌, Err, List, None, Ok, Option, Result, Some, [], length, option_map, take, ℕ}
+use Rattle.serve_devices.specs.Ingress.{IsNext, Receive, cut_to}
 
 -- what was received ahead, with its bytes in front of these, comes before the others
 abbrev pub with_ahead : {E : Type 0} → List ℕ → Option (Result ℕ E) → List Receive → List Receive
@@ -16,3 +17,24 @@ known_of (Some coming) = coming
 -- what is to come after what was received ahead into a room with these bytes
 abbrev pub coming_of : {E : Type 0} → List ℕ → Option (Result ℕ E) → Option (Option (List Receive)) → Option (List Receive)
 coming_of bytes ahead ingress = option_map (λ coming. cut_to (length bytes) (with_ahead bytes ahead coming)) (known_of ingress)
+
+-- the receives of an ingress, without the last one if it was received ahead
+abbrev pub without_ahead : {E : Type 0} → Option (Result ℕ E) → List Receive → List Receive
+without_ahead (Some found) past = take (length past - 1) past
+without_ahead None past = past
+
+-- what was given, of an ingress that gave this, and that received ahead into a room with these bytes
+abbrev pub past_of : {E : Type 0} → List ℕ → Option (Result ℕ E) → Option (Option (List Receive)) → Option (List Receive)
+past_of bytes ahead None = None
+past_of bytes ahead (Some past) = option_map (λ (given : List Receive). cut_to (length bytes) (without_ahead ahead given)) past
+
+-- what was received ahead is the last that the ingress gave
+abbrev pub IsLast : {E : Type 0} → List ℕ → Option (Result ℕ E) → Option (Option (List Receive)) → Type 0
+IsLast bytes (Some found) (Some (Some past)) = (earlier last : List Receive) × (past ≡ earlier ++ last) × IsNext bytes (Some found) last []
+IsLast bytes (Some found) (Some None) = Unit {0}
+IsLast bytes (Some found) None = Unit {0}
+IsLast bytes None past = Unit {0}
+
+-- what was found, with its bytes in front of these, comes after what was given, if that is known
+abbrev pub ComesAfter : {E : Type 0} → List ℕ → Option (Result ℕ E) → Option (List Receive) → Option (List Receive) → Type 0
+ComesAfter bytes found before after = after ≡ option_map (λ (past : List Receive). past ++ with_ahead bytes found []) before
