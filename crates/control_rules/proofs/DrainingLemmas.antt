@@ -1,5 +1,5 @@
 -- A member that is drained: the plan for it, by the words of programs, and what one attempt comes to.
-use Rattle.std.proofs.Common.{◌≡◌, ◌∙◌, ◌+◌, ◌<◌, ◌≤◌, ◌∷◌, Bool, List, None, Option, Some, [], ap, arith, drop, false, get_or, length, refl, subst, suc, sym, zero, ℕ}
+use Rattle.std.proofs.Common.{◌≡◌, ◌⊎◌, ◌∙◌, ◌+◌, ◌<◌, ◌≤◌, ◌∷◌, Bool, List, None, Option, Some, [], ap, arith, drop, false, get_or, inl, inr, length, refl, subst, suc, sym, zero, ℕ}
 use Rattle.std.specs.Prelude.{◌↔◌, Err, IfNone, IfOk, IfSome, Ok, Result, is_none, option_map, slice_get, true}
 use Rattle.std.specs.List.{find}
 use Rattle.std.proofs.lemmas.Bool.{false≢true, ne_eqb}
@@ -18,12 +18,18 @@ use Rattle.member_group.specs.declared.command.Command.TheVariants.{Leave, SetSe
 use Rattle.member_group.specs.declared.member.Member.{Member}
 use Rattle.member_group.specs.declared.refusal.Refusal.TheVariants.{NoGroup, NoMember}
 use Rattle.control_rules.specs.Drain.{AreDraining, HasMemberAt, IsDrainRefusal, IsNotSpread, SendsDrain, no_takers, other_program, without_member}
+use Rattle.control_rules.specs.Drain.{DrainTryFails, drain_reading_failed, lines_unread}
+use Rattle.control_rules.specs.Failing.{StopsAsking}
 use Rattle.selector_buckets.specs.Buckets.{BucketsValue}
 use Rattle.selector_buckets.specs.Drained.{CanDrain}
 use Rattle.selector_buckets.specs.Reading.{IsSelectorOf}
 use Rattle.selector_buckets.specs.Words.{selector_words}
 use Rattle.selector_buckets.specs.declared.hash.HashBy.{HashBy}
-use Rattle.control_rules.specs.History.{ClientValue}
+use Rattle.control_rules.specs.History.{ClientValue, History, IsReadLine, Learns}
+use Rattle.control_rules.specs.declared.ask_failure.AskFailure.{AskFailure}
+use Rattle.control_rules.specs.declared.ask_failure.AskFailure.TheVariants as failed
+use Rattle.control_rules.proofs.LearnLemmas.{learns_weaker}
+use Rattle.control_rules.proofs.StopLemmas.{stops_unstored}
 use Rattle.control_rules.specs.Text.{changes_text}
 use Rattle.control_rules.proofs.FoundLemmas.{some_holds}
 use Rattle.control_rules.specs.Load.{IsEnd}
@@ -152,3 +158,10 @@ drain_attempt_read key id before after reply (Ended (Refused text)) is sends = (
 drain_attempt_read key id before after reply (Ended (Unsent refusal)) is sends = absurd is
 drain_attempt_read key id before after reply (Ended Changed) is sends = absurd is
 drain_attempt_read key id before after reply (Again busy) is sends = (reply, sends, is)
+
+-- the request could not be made of what was read
+pub unmade_drain : (key : Endpoint) (id : ℕ) (failure : AskFailure) (before after : ClientValue) (Holds : History → Type 0) →
+    (failure ≡ failed.ReadFailed) ⊎ (failure ≡ failed.OutOfMemory) → Learns before after Holds → DrainTryFails key id failure before after
+unmade_drain key id failure before after Holds (inl is) it = lines_unread is (learns_weaker before after Holds (λ history. Unit {0}) (λ history are holds. tt) it)
+unmade_drain key id failure before after Holds (inr is) it =
+    drain_reading_failed (subst (λ (one : AskFailure). StopsAsking IsReadLine one before after) (sym is) (stops_unstored before after Holds it))

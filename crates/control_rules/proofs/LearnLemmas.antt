@@ -1,6 +1,6 @@
 -- What is learnt by exchanges, one after the other.
 use Rattle.std.proofs.Common.{◌≡◌, ◌∙◌, ◌++◌, ◌∷◌, List, None, Option, Some, [], append-nil, append_assoc, refl, subst, ℕ}
-use Rattle.std.specs.Prelude.{Err, IfOk, IfSome, Ok, Result}
+use Rattle.std.specs.Prelude.{IfSome}
 use Rattle.std.specs.List.{All}
 use Rattle.std.proofs.lemmas.List.Elements.{All-append, All-cons, All-head, All-nil, All-tail}
 use Rattle.control_client.specs.Exchange.{AreExchanged, Asks, Exchange, no_line, one_more}
@@ -82,10 +82,3 @@ learns_asked before after line reply Holds same reads asked holds = record {
 pub if_some_all : {X : Type 0} (P Q : X → Type 0) → ((x : X) → P x → Q x) → (option : Option X) → IfSome option P → IfSome option Q
 if_some_all P Q weaker None holds = tt
 if_some_all P Q weaker (Some x) holds = weaker x holds
-
-pub learns_result : {A E : Type 0} (before mid after : ClientValue) (First : History → Type 0) (Then Both : A → History → Type 0) (result : Result A E) → Learns before mid First →
-    IfOk result (λ value. Learns mid after (Then value)) → ((value : A) (history : History) → AreConfigs history → First history → Then value history → Both value history) →
-    IfOk result (λ value. Learns before after (Both value))
-learns_result before mid after First Then Both (Ok value) one two both =
-    learns_weaker before after (λ history. First history × Then value history) (Both value) (λ history are it. both value history are it.0 it.1) (learns_then before mid after First (Then value) one two)
-learns_result before mid after First Then Both (Err fault) one two both = tt

@@ -1,6 +1,7 @@
 pub mod FieldLemmas
 mod LineLemmas
 pub mod LearnLemmas
+pub mod StopLemmas
 mod WordLemmas
 mod ReplyLemmas
 mod ResultLemmas

@@ -17,9 +17,13 @@ use Rattle.selector_buckets.specs.Words.{selector_words}
 use Rattle.selector_buckets.specs.declared.hash.HashBy.{HashBy}
 use Rattle.control_client.specs.Exchange.{Asks}
 use Rattle.control_client.specs.Lines.{IsBlockOf, script_known}
-use Rattle.control_rules.specs.History.{ClientValue, Learns}
+use Rattle.control_rules.specs.Asked.{AskEndsBy}
+use Rattle.control_rules.specs.Failing.{StopsAsking}
+use Rattle.control_rules.specs.History.{ClientValue, IsReadLine, Learns}
 use Rattle.control_rules.specs.Load.{IsAgain, IsEnd, IsPublishedReply}
 use Rattle.control_rules.specs.Text.{changes_text}
+use Rattle.control_rules.specs.declared.ask_failure.AskFailure.{AskFailure}
+use Rattle.control_rules.specs.declared.ask_failure.AskFailure.TheVariants as failed
 use Rattle.control_rules.specs.declared.draining.Drained.{Drained}
 use Rattle.control_rules.specs.declared.draining.Drained.TheVariants.{Changed, Published, Refused, Unsent}
 use Rattle.control_rules.specs.declared.drain_refusal.DrainRefusal.{DrainRefusal}
@@ -111,3 +115,24 @@ module _ (key : Endpoint) (id : ℕ) where
 
   abbrev pub Drains : ClientValue → ClientValue → Drained → Type 0
   Drains before after drained = (mid : ClientValue) × AreDrainTries before mid × EndsDrain mid after drained
+
+  -- a version was read, and the commands that drain the member of it; then the change of that version was sent, and failed so
+  pub record DrainSendFails (failure : AskFailure) (before after : ClientValue) : Type 0 where
+    pub version : ℕ
+    pub mid : ClientValue
+    pub commands : List (Command (List ℕ))
+    pub request : List ℕ
+    pub learns : Learns before mid (λ history. DrainIn (words_config (history version)) key id commands)
+    pub is_request : IsDrainRequest version commands request
+    pub stopped : AskEndsBy failure mid.switch request mid.log after.log
+    pub same_switch : after.switch ≡ mid.switch
+
+  -- how one attempt fails: at reading; or the lines were not read, and no change was sent; or at the change
+  pub data DrainTryFails (failure : AskFailure) (before after : ClientValue) : Type 0 where
+    drain_reading_failed : StopsAsking IsReadLine failure before after → DrainTryFails failure before after
+    lines_unread : failure ≡ failed.ReadFailed → Learns before after (λ history. Unit {0}) → DrainTryFails failure before after
+    drain_send_failed : DrainSendFails failure before after → DrainTryFails failure before after
+
+  -- changes were sent, each to be tried again, and one attempt more failed so
+  abbrev pub FailsDrain : AskFailure → ClientValue → ClientValue → Type 0
+  FailsDrain failure before after = (mid : ClientValue) × AreDrainTries before mid × DrainTryFails failure mid after

@@ -2,6 +2,7 @@ pub mod Asked
 pub mod Fields
 pub mod Text
 pub mod History
+pub mod Failing
 pub mod Shown
 pub mod Rules
 pub mod Load

@@ -8,8 +8,12 @@ use Rattle.member_group.specs.declared.command.Command.{Command}
 use Rattle.control_client.specs.Exchange.{Asks, is_refusal}
 use Rattle.control_client.specs.Lines.{IsBlockOf, script_known}
 use Rattle.control_rules.specs.Fields.{fields_in}
-use Rattle.control_rules.specs.History.{ClientValue, History, Learns}
+use Rattle.control_rules.specs.Asked.{AskEndsBy}
+use Rattle.control_rules.specs.Failing.{StopsAsking}
+use Rattle.control_rules.specs.History.{ClientValue, History, IsReadLine, Learns}
 use Rattle.control_rules.specs.Text.{changes_text}
+use Rattle.control_rules.specs.declared.ask_failure.AskFailure.{AskFailure}
+use Rattle.control_rules.specs.declared.ask_failure.AskFailure.TheVariants as failed
 use Rattle.control_rules.specs.declared.loading.Loaded.{Loaded}
 use Rattle.control_rules.specs.declared.loading.Loaded.TheVariants.{Changed, Published, Refused, Unchanged}
 
@@ -68,3 +72,23 @@ module _ (file : List ℕ) (wanted : List (GroupOf (List ℕ))) where
 
   abbrev pub Loads : ClientValue → ClientValue → Loaded → Type 0
   Loads before after loaded = (mid : ClientValue) × AreTries before mid × EndsLoad mid after loaded
+
+  -- a version was read whose rules are not these; then the change of that version was sent, and failed so
+  pub record SendFails (failure : AskFailure) (before after : ClientValue) : Type 0 where
+    pub version : ℕ
+    pub mid : ClientValue
+    pub request : List ℕ
+    pub learns : Learns before mid (λ history. words_config (history version) ≢ wanted)
+    pub is_request : IsRequestFor file version request
+    pub stopped : AskEndsBy failure mid.switch request mid.log after.log
+    pub same_switch : after.switch ≡ mid.switch
+
+  -- how one attempt fails: at reading; or the lines of the file were not read, and no change was sent; or at the change
+  pub data TryFails (failure : AskFailure) (before after : ClientValue) : Type 0 where
+    reading_failed : StopsAsking IsReadLine failure before after → TryFails failure before after
+    file_unread : failure ≡ failed.ReadFailed → Learns before after (λ history. Unit {0}) → TryFails failure before after
+    send_failed : SendFails failure before after → TryFails failure before after
+
+  -- changes were sent, each to be tried again, and one attempt more failed so
+  abbrev pub FailsLoad : AskFailure → ClientValue → ClientValue → Type 0
+  FailsLoad failure before after = (mid : ClientValue) × AreTries before mid × TryFails failure mid after

@@ -1,10 +1,11 @@
 //! Lines that read, sent to a switch, and what their replies show. A result is `None` if a reply shows nothing, such as a refusal.
 
-ghost use Rattle.std.specs.Prelude.{◌≡◌, ◌≤◌, ◌<◌, ◌++◌, ◌^◌, IfOk, IfSome, codes, length, take};
+ghost use Rattle.std.specs.Prelude.{◌≡◌, ◌≤◌, ◌<◌, ◌++◌, ◌^◌, IfSome, MatchResult, codes, length, take};
 ghost use Rattle.ipv4_fields.specs.Endpoint.{IsEndpoint};
 ghost use Rattle.control_line.specs.Request.{Spells, read};
 ghost use Rattle.control_line.specs.Reading.{group_at, member_at};
-ghost use Rattle.control_rules.specs.History.{Learns};
+ghost use Rattle.control_rules.specs.Failing.{StopsAsking};
+ghost use Rattle.control_rules.specs.History.{IsReadLine, Learns};
 ghost use Rattle.control_rules.specs.Shown.{AreWordsAt, IsGroupAt, IsMemberAt, IsShownOf};
 ghost use Rattle.control_rules.specs.body.Lines.{owner_text, words_reading};
 
@@ -21,8 +22,9 @@ const SHOW: &[u8] = b"show";
 
 /// Asks for the measures of the configuration.
 pub(crate) fn ask_shown<D: Wire + Drop>(client: &mut Client<D>) -> Result<Option<Shown>, AskFailure>
-    ensures { IfOk result (λ answer. Learns client.old client.new (λ history.
-        IfSome answer (λ shown. IsShownOf (history shown.version) shown))) }
+    ensures { MatchResult result
+        (λ answer. Learns client.old client.new (λ history. IfSome answer (λ shown. IsShownOf (history shown.version) shown)))
+        (λ failure. StopsAsking IsReadLine failure client.old client.new) }
 {
     let reply = client.ask(SHOW)?;
     Ok(read_shown(&reply))
@@ -42,8 +44,9 @@ pub fn ask_group<D: Wire + Drop>(
     client: &mut Client<D>,
     index: u32,
 ) -> Result<Option<GroupShown>, AskFailure>
-    ensures { IfOk result (λ answer. Learns client.old client.new (λ history.
-        IfSome answer (λ shown. IsGroupAt (history shown.version) index shown))) }
+    ensures { MatchResult result
+        (λ answer. Learns client.old client.new (λ history. IfSome answer (λ shown. IsGroupAt (history shown.version) index shown)))
+        (λ failure. StopsAsking IsReadLine failure client.old client.new) }
 {
     let line = group_line(index);
     let reply = client.ask(line.bytes())?;
@@ -69,8 +72,9 @@ pub fn ask_member<D: Wire + Drop>(
     index: u32,
 ) -> Result<Option<MemberShown>, AskFailure>
     requires { IsEndpoint key }
-    ensures { IfOk result (λ answer. Learns client.old client.new (λ history.
-        IfSome answer (λ shown. IsMemberAt (history shown.version) key index shown))) }
+    ensures { MatchResult result
+        (λ answer. Learns client.old client.new (λ history. IfSome answer (λ shown. IsMemberAt (history shown.version) key index shown)))
+        (λ failure. StopsAsking IsReadLine failure client.old client.new) }
 {
     let line = member_line(key, index);
     let reply = client.ask(line.bytes())?;
@@ -110,8 +114,9 @@ pub(crate) fn ask_words<D: Wire + Drop>(
     place: u32,
 ) -> Result<Option<WordsShown>, AskFailure>
     requires { IsEndpoint program.0 }
-    ensures { IfOk result (λ answer. Learns client.old client.new (λ history.
-        IfSome answer (λ shown. AreWordsAt (history shown.version) program.0 program.1 place shown))) }
+    ensures { MatchResult result
+        (λ answer. Learns client.old client.new (λ history. IfSome answer (λ shown. AreWordsAt (history shown.version) program.0 program.1 place shown)))
+        (λ failure. StopsAsking IsReadLine failure client.old client.new) }
 {
     let line = words_line(program.0, program.1, place);
     let reply = client.ask(line.bytes())?;

@@ -1,7 +1,7 @@
 //! A member that is drained: its buckets go to the other members of its group, and it leaves (docs/COMMANDS.md, "drain").
 
-ghost use Rattle.std.specs.Prelude.{◌≡◌, IfOk, List, ℕ};
-ghost use Rattle.control_rules.specs.Drain.{Drains, IsDrainRequest};
+ghost use Rattle.std.specs.Prelude.{◌≡◌, ◌⊎◌, IfErr, IfOk, List, MatchResult, ℕ};
+ghost use Rattle.control_rules.specs.Drain.{DrainTryFails, Drains, FailsDrain, IsDrainRequest};
 ghost use Rattle.control_rules.specs.Text.{changes_text};
 ghost use Rattle.control_rules.specs.body.Attempt.{IsReplyRead};
 ghost use Rattle.control_rules.specs.body.Draining.{IsDrainAttempt, IsDrainReplyRead};
@@ -41,7 +41,9 @@ enum DrainAttempt {
 
 // Two lines as one change of a version.
 fn request_for(alloc: Global, version: u64, lines: &[u8]) -> Result<Vec<u8>, AskFailure>
-    ensures { IfOk result (λ request. (commands : List (CommandValue (List ℕ))) → lines.now ≡ changes_text commands → IsDrainRequest version commands request.items) }
+    ensures { MatchResult result
+        (λ request. (commands : List (CommandValue (List ℕ))) → lines.now ≡ changes_text commands → IsDrainRequest version commands request.items)
+        (λ failure. (failure ≡ AskFailure.ReadFailed) ⊎ (failure ≡ AskFailure.OutOfMemory)) }
 {
     let front = format!(in alloc; "at {version} all ")?;
     match block_of(
@@ -73,7 +75,9 @@ fn try_drain<D: Wire + Drop>(
     key: Endpoint,
     id: u32,
 ) -> Result<DrainAttempt, AskFailure>
-    ensures { IfOk result (IsDrainAttempt key id client.old client.new) }
+    ensures { MatchResult result
+        (IsDrainAttempt key id client.old client.new)
+        (λ failure. DrainTryFails key id failure client.old client.new) }
 {
     let Some(now) = read_running(client)? else {
         return Ok(DrainAttempt::Ended(Drained::Changed));
@@ -99,6 +103,7 @@ pub fn drain<R: Clock, D: Wire + Drop>(
     id: u32,
 ) -> Result<Drained, AskFailure>
     ensures drained { IfOk result (Drains key id client.old client.new) }
+    ensures failed { IfErr result (λ failure. FailsDrain key id failure client.old client.new) }
 {
     for _turn in 0..=AGAIN {
         match try_drain(client, key, id)? {

@@ -1,10 +1,11 @@
 //! The rules of a switch, compared with those of a rules file and replaced by them (docs/COMMANDS.md, "load").
 
-ghost use Rattle.std.specs.Prelude.{◌≡◌, ◌↔◌, IfOk, IfSome, IsTrue};
+ghost use Rattle.std.specs.Prelude.{◌≡◌, ◌↔◌, ◌⊎◌, IfErr, IfOk, IfSome, IsTrue, MatchResult};
 ghost use Rattle.config_diff.specs.Words.{words_config};
 ghost use Rattle.control_line.specs.Rules.{IsConfigOf};
-ghost use Rattle.control_rules.specs.History.{Learns};
-ghost use Rattle.control_rules.specs.Load.{IsDifference, IsRequestFor, Loads};
+ghost use Rattle.control_rules.specs.Failing.{StopsAsking};
+ghost use Rattle.control_rules.specs.History.{IsReadLine, Learns};
+ghost use Rattle.control_rules.specs.Load.{FailsLoad, IsDifference, IsRequestFor, Loads, TryFails};
 ghost use Rattle.control_rules.specs.body.Attempt.{IsAttempt, IsReplyRead};
 
 use crate::ask_failure::AskFailure;
@@ -60,8 +61,10 @@ const OUTDATED: &[u8] = b"refused M1 ";
 pub(crate) fn read_running<D: Wire + Drop>(
     client: &mut Client<D>,
 ) -> Result<Option<Running>, AskFailure>
-    ensures { IfOk result (λ answer. Learns client.old client.new (λ history.
-        IfSome answer (λ running. words_config running.config ≡ words_config (history running.version)))) }
+    ensures { MatchResult result
+        (λ answer. Learns client.old client.new (λ history.
+            IfSome answer (λ running. words_config running.config ≡ words_config (history running.version))))
+        (λ failure. StopsAsking IsReadLine failure client.old client.new) }
 {
     control_line::one_request();
     bpf_asm::one_value();
@@ -86,6 +89,7 @@ pub fn differences<D: Wire + Drop>(
 ) -> Result<Option<Vec<u8>>, AskFailure>
     ensures read { IfOk result (λ answer. Learns client.old client.new (λ history.
         IfSome answer (λ text. IsDifference history (words_config config.now) text.items))) }
+    ensures failed { IfErr result (λ failure. StopsAsking IsReadLine failure client.old client.new) }
 {
     let Some(now) = read_running(client)? else {
         return Ok(None);
@@ -103,7 +107,9 @@ fn is_same(alloc: Global, one: &Config, other: &Config) -> Result<bool, AllocErr
 
 // The rules of a file as one change of a version.
 fn request_for(alloc: Global, version: u64, file: &[u8]) -> Result<Vec<u8>, AskFailure>
-    ensures { IfOk result (λ request. IsRequestFor file.now version request.items) }
+    ensures { MatchResult result
+        (λ request. IsRequestFor file.now version request.items)
+        (λ failure. (failure ≡ AskFailure.ReadFailed) ⊎ (failure ≡ AskFailure.OutOfMemory)) }
 {
     let front = format!(in alloc; "at {version} anew ")?;
     match block_of(
@@ -139,7 +145,9 @@ fn try_once<D: Wire + Drop>(
     file: &[u8],
     config: &Config,
 ) -> Result<Attempt, AskFailure>
-    ensures { IfOk result (IsAttempt file.now (words_config config.now) client.old client.new) }
+    ensures { MatchResult result
+        (IsAttempt file.now (words_config config.now) client.old client.new)
+        (λ failure. TryFails file.now (words_config config.now) failure client.old client.new) }
 {
     let Some(now) = read_running(client)? else {
         return Ok(Attempt::Ended(Loaded::Changed));
@@ -172,6 +180,7 @@ pub fn load<R: Clock, D: Wire + Drop>(
 ) -> Result<Loaded, AskFailure>
     requires { IsConfigOf file.now config.now }
     ensures loaded { IfOk result (Loads file.now (words_config config.now) client.old client.new) }
+    ensures failed { IfErr result (λ failure. FailsLoad file.now (words_config config.now) failure client.old client.new) }
 {
     for _turn in 0..=AGAIN {
         match try_once(client, file, config)? {

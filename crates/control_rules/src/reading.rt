@@ -1,8 +1,9 @@
 //! The rules of a switch, read back line by line (docs/COMMANDS.md, "rules").
 
-ghost use Rattle.std.specs.Prelude.{◌≡◌, ◌≤◌, ◌++◌, IfOk, IfSome, IsTrue, OnOk, length};
+ghost use Rattle.std.specs.Prelude.{◌≡◌, ◌≤◌, ◌++◌, IfErr, IfOk, IfSome, IsTrue, MatchResult, OnOk, length};
 ghost use Rattle.ipv4_fields.specs.Endpoint.{IsEndpoint};
-ghost use Rattle.control_rules.specs.History.{Learns};
+ghost use Rattle.control_rules.specs.Failing.{StopsAsking};
+ghost use Rattle.control_rules.specs.History.{IsReadLine, Learns};
 ghost use Rattle.control_rules.specs.Rules.{rules_file};
 ghost use Rattle.control_rules.specs.Text.{heading};
 ghost use Rattle.control_rules.specs.body.Added.{Adds, AddsFilter, AddsGroup, AddsGroups, AddsMember, AddsMembers, AddsSelector, HasWordsOf, lock_rules};
@@ -50,8 +51,9 @@ fn read_program_words<D: Wire + Drop>(
     count: u32,
 ) -> Result<Option<Vec<u64>>, AskFailure>
     requires { IsEndpoint program.0 }
-    ensures { IfOk result (λ answer. Learns client.old client.new (λ history.
-        IfSome answer (λ words. HasWordsOf (history version) program.0 program.1 count words.items))) }
+    ensures { MatchResult result
+        (λ answer. Learns client.old client.new (λ history. IfSome answer (λ words. HasWordsOf (history version) program.0 program.1 count words.items)))
+        (λ failure. StopsAsking IsReadLine failure client.old client.new) }
 {
     let mut words = Vec::new(client.allocator());
     for _turn in 0..count {
@@ -81,8 +83,9 @@ fn read_program<D: Wire + Drop>(
     count: u32,
 ) -> Result<Option<Program<Global>>, AskFailure>
     requires { IsEndpoint program.0 }
-    ensures { IfOk result (λ answer. Learns client.old client.new (λ history.
-        IfSome answer (λ it. HasWordsOf (history version) program.0 program.1 count it.words))) }
+    ensures { MatchResult result
+        (λ answer. Learns client.old client.new (λ history. IfSome answer (λ it. HasWordsOf (history version) program.0 program.1 count it.words)))
+        (λ failure. StopsAsking IsReadLine failure client.old client.new) }
 {
     match read_program_words(client, version, program, count)? {
         None => Ok(None),
@@ -99,8 +102,9 @@ fn push_selector<D: Wire + Drop>(
     text: &mut Vec<u8>,
 ) -> Result<bool, AskFailure>
     requires { IsEndpoint key }
-    ensures { IfOk result (λ done. Learns client.old client.new (λ history.
-        IsTrue done → AddsSelector (history version) key count text.old.items text.new.items)) }
+    ensures { MatchResult result
+        (λ done. Learns client.old client.new (λ history. IsTrue done → AddsSelector (history version) key count text.old.items text.new.items))
+        (λ failure. StopsAsking IsReadLine failure client.old client.new) }
 {
     if count == 0 {
         return Ok(true);
@@ -125,8 +129,9 @@ fn push_filter<D: Wire + Drop>(
     text: &mut Vec<u8>,
 ) -> Result<bool, AskFailure>
     requires { IsEndpoint owner.0 }
-    ensures { IfOk result (λ done. Learns client.old client.new (λ history.
-        IsTrue done → AddsFilter (history version) owner.0 owner.1 count text.old.items text.new.items)) }
+    ensures { MatchResult result
+        (λ done. Learns client.old client.new (λ history. IsTrue done → AddsFilter (history version) owner.0 owner.1 count text.old.items text.new.items))
+        (λ failure. StopsAsking IsReadLine failure client.old client.new) }
 {
     if count == 0 {
         return Ok(true);
@@ -170,8 +175,9 @@ fn push_member<D: Wire + Drop>(
     text: &mut Vec<u8>,
 ) -> Result<bool, AskFailure>
     requires { IsEndpoint key }
-    ensures { IfOk result (λ done. Learns client.old client.new (λ history.
-        IsTrue done → AddsMember (history version) key index text.old.items text.new.items)) }
+    ensures { MatchResult result
+        (λ done. Learns client.old client.new (λ history. IsTrue done → AddsMember (history version) key index text.old.items text.new.items))
+        (λ failure. StopsAsking IsReadLine failure client.old client.new) }
 {
     let Some(shown) = ask_member(client, key, index)? else {
         return Ok(false);
@@ -202,8 +208,9 @@ fn push_members<D: Wire + Drop>(
     text: &mut Vec<u8>,
 ) -> Result<bool, AskFailure>
     requires { IsEndpoint key }
-    ensures { IfOk result (λ done. Learns client.old client.new (λ history.
-        IsTrue done → AddsMembers (history version) key members text.old.items text.new.items)) }
+    ensures { MatchResult result
+        (λ done. Learns client.old client.new (λ history. IsTrue done → AddsMembers (history version) key members text.old.items text.new.items))
+        (λ failure. StopsAsking IsReadLine failure client.old client.new) }
 {
     for index in 0..members {
         if !push_member(client, version, key, index, text)? {
@@ -220,8 +227,9 @@ fn push_group<D: Wire + Drop>(
     index: u32,
     text: &mut Vec<u8>,
 ) -> Result<bool, AskFailure>
-    ensures { IfOk result (λ done. Learns client.old client.new (λ history.
-        IsTrue done → AddsGroup (history version) index text.old.items text.new.items)) }
+    ensures { MatchResult result
+        (λ done. Learns client.old client.new (λ history. IsTrue done → AddsGroup (history version) index text.old.items text.new.items))
+        (λ failure. StopsAsking IsReadLine failure client.old client.new) }
 {
     let Some(shown) = ask_group(client, index)? else {
         return Ok(false);
@@ -248,8 +256,9 @@ fn push_groups<D: Wire + Drop>(
     groups: u32,
     text: &mut Vec<u8>,
 ) -> Result<bool, AskFailure>
-    ensures { IfOk result (λ done. Learns client.old client.new (λ history.
-        IsTrue done → AddsGroups (history version) groups text.old.items text.new.items)) }
+    ensures { MatchResult result
+        (λ done. Learns client.old client.new (λ history. IsTrue done → AddsGroups (history version) groups text.old.items text.new.items))
+        (λ failure. StopsAsking IsReadLine failure client.old client.new) }
 {
     for index in 0..groups {
         if !push_group(client, version, index, text)? {
@@ -278,8 +287,9 @@ fn heading(alloc: Global, shown: Shown) -> Result<Vec<u8>, OutOfMemory>
 
 // The rules of a version, or none if they changed while they were read.
 fn read_once<D: Wire + Drop>(client: &mut Client<D>) -> Result<Option<RulesRead>, AskFailure>
-    ensures { IfOk result (λ answer. Learns client.old client.new (λ history.
-        IfSome answer (λ rules. rules.text.items ≡ rules_file rules.version (history rules.version)))) }
+    ensures { MatchResult result
+        (λ answer. Learns client.old client.new (λ history. IfSome answer (λ rules. rules.text.items ≡ rules_file rules.version (history rules.version))))
+        (λ failure. StopsAsking IsReadLine failure client.old client.new) }
 {
     let Some(shown) = ask_shown(client)? else {
         return Ok(None);
@@ -297,6 +307,7 @@ fn read_once<D: Wire + Drop>(client: &mut Client<D>) -> Result<Option<RulesRead>
 pub fn read_rules<D: Wire + Drop>(client: &mut Client<D>) -> Result<Option<RulesRead>, AskFailure>
     ensures read { IfOk result (λ answer. Learns client.old client.new (λ history.
         IfSome answer (λ rules. rules.text.items ≡ rules_file rules.version (history rules.version)))) }
+    ensures failed { IfErr result (λ failure. StopsAsking IsReadLine failure client.old client.new) }
 {
     for _turn in 0..=AGAIN {
         if let Some(rules) = read_once(client)? {

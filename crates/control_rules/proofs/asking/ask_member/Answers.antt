@@ -4,6 +4,8 @@ use Rattle.control_line.specs.Reading.{member_at}
 use Rattle.control_rules.specs.body.Replies.{IsMemberReply}
 use Rattle.control_rules.proofs.LearnLemmas.{if_some_all, learns_asked}
 use Rattle.control_rules.proofs.ShownLemmas.{member_true}
+use Rattle.control_rules.specs.History.{IsReadLine}
+use Rattle.control_rules.proofs.StopLemmas.{err_is, stops_at}
 use Rattle.control_rules.proofs.asking.ask_member.Goals as goal
 
 pub returns : goal.returns
@@ -12,3 +14,9 @@ returns g c =
     let reply = c.in_ok-reply.reply.items in
     learns_asked c.args.client.now c.ask.new.self line reply _ c.ask.ensures.switch (inr (member_at c.args.key c.args.index, rw c.bytes.ensures.line c.member_line-line.ensures)) c.in_ok-reply.ensures.asked
     (λ history are true. if_some_all (IsMemberReply reply) _ (λ shown it. member_true history are line reply true c.args.key c.args.index shown it (rw c.bytes.ensures.line c.member_line-line.ensures)) c.read_member.result (subst (λ text. IfSome c.read_member.result (IsMemberReply text)) c.deref.ensures.value c.read_member.ensures))
+
+pub returns-in_err-reply : goal.returns-in_err-reply
+returns-in_err-reply g c =
+    rw (err_is c.from_residual.result c.in_err-reply.field-0.0 c.from_residual.ensures.1)
+    (stops_at IsReadLine c.bytes.result.now c.in_err-reply.field-0.0 c.args.client.now c.ask.new.self (inr (member_at c.args.key c.args.index, rw c.bytes.ensures.line c.member_line-line.ensures))
+    c.in_err-reply.ensures.unasked c.ask.ensures.switch)

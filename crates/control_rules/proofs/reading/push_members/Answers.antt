@@ -2,6 +2,7 @@ use Rattle.std.proofs.Common.{arith}
 use Rattle.std.proofs.lemmas.Bool.{false≢true}
 use Rattle.control_rules.proofs.AddedLemmas.{members_begin, members_end, members_more}
 use Rattle.control_rules.proofs.LearnLemmas.{learns_nothing, learns_then, learns_weaker}
+use Rattle.control_rules.proofs.StopLemmas.{err_is, stops_after}
 use Rattle.control_rules.proofs.reading.push_members.Goals as goal
 
 pub loop-index-init : goal.loop-index-init
@@ -25,3 +26,8 @@ returns g c =
     (λ history are first done. members_end (history c.args.version) (are c.args.version) c.args.key c.args.members c.loop-index.index c.args.text.now.items c.loop-index.text.items
     (omega (arith, c.loop-index-test.false, c.loop-index.auto.index-end)) first)
     c.loop-index.invariant
+
+pub returns-in_err-push_member : goal.returns-in_err-push_member
+returns-in_err-push_member g c =
+    rw (err_is c.from_residual.result c.in_err-push_member.field-0.0 c.from_residual.ensures.1)
+    (stops_after c.in_err-push_member.field-0.0 c.args.client.now c.loop-index.client c.push_member.new.client _ c.loop-index.invariant c.in_err-push_member.ensures)

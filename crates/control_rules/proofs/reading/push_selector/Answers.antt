@@ -3,6 +3,8 @@ use Rattle.control_rules.specs.body.Added.{HasWordsOf}
 use Rattle.control_rules.proofs.AddedLemmas.{selector_none, selector_some}
 use Rattle.control_rules.proofs.FoundLemmas.{some_holds}
 use Rattle.control_rules.proofs.LearnLemmas.{learns_nothing, learns_weaker}
+use Rattle.control_rules.specs.declared.ask_failure.AskFailure.TheVariants.{OutOfMemory}
+use Rattle.control_rules.proofs.StopLemmas.{err_is, stops_unstored}
 use Rattle.control_rules.proofs.reading.push_selector.Goals as goal
 
 pub returns-then-count-eq0 : goal.returns-then-count-eq0
@@ -15,3 +17,13 @@ returns g c =
     (λ history are has done. selector_some (history c.args.version) (are c.args.version) c.args.key c.args.count c.in-Some.program.words c.args.text.now.items c.push_change.new.text.items c.if-count-eq0.false
     (some_holds (λ it. HasWordsOf (history c.args.version) c.args.key None c.args.count it.words) _ c.in-Some.program has c.in-Some.is) c.in_ok-push_change.ensures)
     c.in_ok-program.ensures
+
+pub returns-in_err-program : goal.returns-in_err-program
+returns-in_err-program g c =
+    rw (err_is c.from_residual.result c.in_err-program.field-0.0 c.from_residual.ensures.1)
+    (c.in_err-program.ensures)
+
+pub returns-in_err-push_change : goal.returns-in_err-push_change
+returns-in_err-push_change g c =
+    rw (err_is c.from_residual-in_err-push_change.result OutOfMemory c.from_residual-in_err-push_change.ensures.1)
+    (stops_unstored c.args.client.now c.read_program.new.client _ c.in_ok-program.ensures)

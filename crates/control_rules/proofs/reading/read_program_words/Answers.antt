@@ -3,6 +3,8 @@ use Rattle.control_rules.specs.body.Progress.{AreFirstWords}
 use Rattle.control_rules.proofs.AddedLemmas.{words_done, words_more_at}
 use Rattle.control_rules.proofs.FoundLemmas.{some_holds}
 use Rattle.control_rules.proofs.LearnLemmas.{if_some_all, learns_nothing, learns_then, learns_weaker}
+use Rattle.control_rules.specs.declared.ask_failure.AskFailure.TheVariants.{OutOfMemory}
+use Rattle.control_rules.proofs.StopLemmas.{err_is, stops_after, stops_unstored}
 use Rattle.control_rules.proofs.reading.read_program_words.Goals as goal
 
 pub loop-turn-init : goal.loop-turn-init
@@ -45,3 +47,14 @@ returns g c =
     learns_weaker c.args.client.now c.loop-turn.client _ _
     (λ history are first. if_some_all _ _ (λ all it. words_done (history c.args.version) c.args.program.0 c.args.program.1 c.args.count c.loop-turn.words.items all.items first it.0 it.1) c.finished-2.result c.finished-2.ensures)
     c.loop-turn.invariant
+
+pub returns-in_err-shown : goal.returns-in_err-shown
+returns-in_err-shown g c =
+    rw (err_is c.from_residual.result c.in_err-shown.field-0.0 c.from_residual.ensures.1)
+    (stops_after c.in_err-shown.field-0.0 c.args.client.now c.loop-turn.client c.ask_words.new.client _ c.loop-turn.invariant c.in_err-shown.ensures)
+
+pub returns-in_err-extend_from_slice : goal.returns-in_err-extend_from_slice
+returns-in_err-extend_from_slice g c =
+    rw (err_is c.from_residual-in_err-extend_from_slice.result OutOfMemory c.from_residual-in_err-extend_from_slice.ensures.1)
+    (stops_unstored c.args.client.now c.ask_words.new.client _
+    (learns_then c.args.client.now c.loop-turn.client c.ask_words.new.client _ _ c.loop-turn.invariant c.in_ok-shown.ensures))
