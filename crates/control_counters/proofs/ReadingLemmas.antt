@@ -53,7 +53,7 @@ counters_after history version told one more known counters whole same frame cou
   counted = whole ∙ ap (λ it. one ++ it) counted.1;
 }
 
-named_first : (told one more : List Exchange) (version : ℕ) → told ≡ one ++ more → IsNamed one version → IsNamed told version
+pub named_first : (told one more : List Exchange) (version : ℕ) → told ≡ one ++ more → IsNamed one version → IsNamed told version
 named_first told one more version whole it = record {
   before = it.before;
   after = it.after ++ more;
@@ -63,7 +63,7 @@ named_first told one more version whole it = record {
   names = it.names;
 }
 
-named_last : (told one more : List Exchange) (version : ℕ) → told ≡ one ++ more → IsNamed more version → IsNamed told version
+pub named_last : (told one more : List Exchange) (version : ℕ) → told ≡ one ++ more → IsNamed more version → IsNamed told version
 named_last told one more version whole it = record {
   before = one ++ it.before;
   after = it.after;

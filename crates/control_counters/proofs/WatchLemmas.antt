@@ -1,16 +1,23 @@
 -- What is seen by exchanges, one after the other.
 use Rattle.std.proofs.Common.{◌≡◌, ◌∙◌, ◌⊎◌, ◌++◌, ◌∷◌, List, None, Option, Some, [], codes, inl, inr, refl, subst, ℕ}
-use Rattle.std.specs.Prelude.{Err, IfOk, IfSome, Ok, Result}
+use Rattle.std.specs.Prelude.{Err, IfSome, MatchResult, Ok, Result}
 use Rattle.std.specs.List.{All}
 use Rattle.std.proofs.lemmas.List.Elements.{All-append, All-cons, All-head, All-nil, All-tail}
 use Rattle.control_client.specs.Exchange.{AreExchanged, Asks, Exchange, no_line, one_more}
+use Rattle.control_client.specs.Wire.{Event}
+use Rattle.control_client.specs.declared.device.Peer.{Peer}
 use Rattle.control_client.proofs.WireLemmas.{logs_more, logs_nothing}
 use Rattle.control_rules.specs.History.{AreConfigs, ClientValue, History, IsReadLine, IsTrueTo, Learns}
 use Rattle.control_rules.proofs.LearnLemmas.{all_left, all_right, exchanged-append}
 use Rattle.control_rules.specs.Shown.{IsShownReply}
 use Rattle.control_rules.specs.declared.replies.Shown.{Shown}
+use Rattle.control_rules.specs.Failing.{StopsAsking, StopsBy, line_failed, no_memory}
+use Rattle.control_rules.specs.declared.ask_failure.AskFailure.{AskFailure}
+use Rattle.control_rules.specs.declared.ask_failure.AskFailure.TheVariants.{OutOfMemory}
+use Rattle.control_rules.proofs.StopLemmas.{stops_here, stops_later}
+use Rattle.control_counters.specs.Failing.{FailsWatching, asking_stopped, no_time}
 use Rattle.control_counters.specs.Reading.{IsNamed}
-use Rattle.control_counters.specs.Watching.{IsCountLine, Watches}
+use Rattle.control_counters.specs.Watching.{IsCountLine, IsWatchLine, Watches}
 
 abbrev IsWatched : Exchange → Type 0
 IsWatched one = IsReadLine one.line ⊎ IsCountLine one.line
@@ -118,10 +125,49 @@ pub if_some_both : {X : Type 0} (P Q R : X → Type 0) → ((x : X) → P x → 
 if_some_both P Q R both None p q = tt
 if_some_both P Q R both (Some x) p q = both x p q
 
-pub watches_result : {A E : Type 0} (before mid after : ClientValue) (First : History → List Exchange → Type 0) (Next Both : A → History → List Exchange → Type 0)
-    (result : Result A E) → Watches before mid First → IfOk result (λ value. Watches mid after (Next value)) →
-    ((value : A) (history : History) (told : List Exchange) → AreConfigs history → InTurn First (Next value) history told → Both value history told) →
-    IfOk result (λ value. Watches before after (Both value))
-watches_result before mid after First Next Both (Ok value) one two both =
-    watches_weaker before after (InTurn First (Next value)) (Both value) (λ history told are it. both value history told are it) (watches_then before mid after First (Next value) one two)
-watches_result before mid after First Next Both (Err fault) one two both = tt
+-- ---- how watching stops
+
+pub stops_watching : (failure : AskFailure) (before mid after : ClientValue) (Holds : History → List Exchange → Type 0) → Watches before mid Holds →
+    StopsAsking IsWatchLine failure mid after → StopsAsking IsWatchLine failure before after
+stops_watching failure before mid after Holds it stops =
+    stops_later IsWatchLine it.told it.events failure before mid after it.are_exchanged it.logged it.same_switch it.watches_only stops
+
+pub stops_uncounted : (failure : AskFailure) (before after : ClientValue) (Holds : History → List Exchange → Type 0) → failure ≡ OutOfMemory → Watches before after Holds →
+    StopsAsking IsWatchLine failure before after
+stops_uncounted failure before after Holds is it = rw is (stops_watching OutOfMemory before after after Holds it (stops_here IsWatchLine after))
+
+stops_alike : (failure : AskFailure) (switch : Peer) (log log' : Option (List Event)) → StopsBy IsReadLine failure switch log log' → StopsBy IsWatchLine failure switch log log'
+stops_alike failure switch log log' (line_failed line is ends) = line_failed line (inl is) ends
+stops_alike failure switch log log' (no_memory is same) = no_memory is same
+
+-- lines that read are among those that change nothing
+pub stops_wider : (failure : AskFailure) (before after : ClientValue) → StopsAsking IsReadLine failure before after → StopsAsking IsWatchLine failure before after
+stops_wider failure before after it = record {
+  told = it.told;
+  events = it.events;
+  log_then = it.log_then;
+  are_exchanged = it.are_exchanged;
+  logged = it.logged;
+  only = read_watched it.told it.only;
+  stopped = stops_alike failure before.switch it.log_then after.log it.stopped;
+  same_switch = it.same_switch;
+}
+
+module _ (IsSuch : List Exchange → Type 0) (First : History → List Exchange → Type 0) (before mid after : ClientValue) (one : Watches before mid First) where
+  -- lines were exchanged before
+  pub fails_later : (Earlier : List Exchange → Type 0) (failure : AskFailure) →
+      ((history : History) (told : List Exchange) → AreConfigs history → InTurn First (λ history told. Earlier told) history told → IsSuch told) →
+      FailsWatching Earlier failure mid after → FailsWatching IsSuch failure before after
+  fails_later Earlier failure such (asking_stopped it) = asking_stopped (stops_watching failure before mid after First one it)
+  fails_later Earlier failure such (no_time is it) =
+      no_time is (watches_weaker before after (InTurn First (λ history told. Earlier told)) (λ history told. IsSuch told) such
+      (watches_then before mid after First (λ history told. Earlier told) one it))
+
+  pub match_later : {A : Type 0} (Next Both : A → History → List Exchange → Type 0) (result : Result A AskFailure) →
+      MatchResult result (λ value. Watches mid after (Next value)) (λ failure. FailsWatching (λ told. Unit {0}) failure mid after) →
+      ((value : A) (history : History) (told : List Exchange) → AreConfigs history → InTurn First (Next value) history told → Both value history told) →
+      ((history : History) (told : List Exchange) → AreConfigs history → InTurn First (λ history told. Unit {0}) history told → IsSuch told) →
+      MatchResult result (λ value. Watches before after (Both value)) (λ failure. FailsWatching IsSuch failure before after)
+  match_later Next Both (Ok value) two both such =
+      watches_weaker before after (InTurn First (Next value)) (Both value) (λ history told are it. both value history told are it) (watches_then before mid after First (Next value) one two)
+  match_later Next Both (Err failure) two both such = fails_later (λ told. Unit {0}) failure such two

@@ -1,9 +1,10 @@
 //! The counts of known groups and members.
 
-ghost use Rattle.std.specs.Prelude.{◌≡◌, IfOk, IfSome, map};
+ghost use Rattle.std.specs.Prelude.{◌≡◌, IfSome, MatchResult, map};
+ghost use Rattle.control_rules.specs.Failing.{StopsAsking};
 ghost use Rattle.control_counters.specs.Frame.{keys_of, seats_of};
 ghost use Rattle.control_counters.specs.Counts.{count_exchanges, group_exchange, member_exchange};
-ghost use Rattle.control_counters.specs.Watching.{Watches};
+ghost use Rattle.control_counters.specs.Watching.{IsWatchLine, Watches};
 ghost use Rattle.control_counters.specs.body.Framed.{HasFrameOf};
 
 use crate::asking::{ask_group_counts, ask_member_counts, ask_totals};
@@ -16,8 +17,10 @@ fn count_groups<D: Wire + Drop>(
     client: &mut Client<D>,
     known: &[GroupCount],
 ) -> Result<Option<Vec<GroupCount>>, AskFailure>
-    ensures { IfOk result (λ answer. Watches client.old client.new (λ history told. IfSome answer (λ groups.
-        (keys_of groups.items ≡ keys_of known.now) × (told ≡ map group_exchange groups.items)))) }
+    ensures { MatchResult result
+        (λ answer. Watches client.old client.new (λ history told. IfSome answer (λ groups.
+        (keys_of groups.items ≡ keys_of known.now) × (told ≡ map group_exchange groups.items))))
+        (λ failure. StopsAsking IsWatchLine failure client.old client.new) }
 {
     let mut groups = Vec::new(client.allocator());
     for group in known {
@@ -33,8 +36,10 @@ fn count_members<D: Wire + Drop>(
     client: &mut Client<D>,
     known: &[MemberCount],
 ) -> Result<Option<Vec<MemberCount>>, AskFailure>
-    ensures { IfOk result (λ answer. Watches client.old client.new (λ history told. IfSome answer (λ members.
-        (seats_of members.items ≡ seats_of known.now) × (told ≡ map member_exchange members.items)))) }
+    ensures { MatchResult result
+        (λ answer. Watches client.old client.new (λ history told. IfSome answer (λ members.
+        (seats_of members.items ≡ seats_of known.now) × (told ≡ map member_exchange members.items))))
+        (λ failure. StopsAsking IsWatchLine failure client.old client.new) }
 {
     let mut members = Vec::new(client.allocator());
     for member in known {
@@ -51,8 +56,10 @@ pub(crate) fn counted<D: Wire + Drop>(
     client: &mut Client<D>,
     known: &Counters,
 ) -> Result<Option<Counters>, AskFailure>
-    ensures { IfOk result (λ answer. Watches client.old client.new (λ history told. IfSome answer (λ counters.
-        HasFrameOf known.now counters × (told ≡ count_exchanges counters)))) }
+    ensures { MatchResult result
+        (λ answer. Watches client.old client.new (λ history told. IfSome answer (λ counters.
+        HasFrameOf known.now counters × (told ≡ count_exchanges counters))))
+        (λ failure. StopsAsking IsWatchLine failure client.old client.new) }
 {
     let Some(totals) = ask_totals(client)? else {
         return Ok(None);

@@ -1,8 +1,9 @@
 //! The groups and members of a switch, read without their counts.
 
-ghost use Rattle.std.specs.Prelude.{◌≡◌, IfOk, IfSome, IsTrue};
+ghost use Rattle.std.specs.Prelude.{◌≡◌, IfSome, IsTrue, MatchResult};
 ghost use Rattle.ipv4_fields.specs.Endpoint.{IsEndpoint};
-ghost use Rattle.control_rules.specs.History.{Learns};
+ghost use Rattle.control_rules.specs.Failing.{StopsAsking};
+ghost use Rattle.control_rules.specs.History.{IsReadLine, Learns};
 ghost use Rattle.control_rules.specs.Shown.{IsShownOf};
 ghost use Rattle.control_counters.specs.Frame.{IsFrameOf};
 ghost use Rattle.control_counters.specs.body.Framed.{AddsFirstGroups, AddsGroup, AddsSeats};
@@ -22,8 +23,10 @@ fn push_seats<D: Wire + Drop>(
     rows: &mut Vec<MemberCount>,
 ) -> Result<bool, AskFailure>
     requires { IsEndpoint key }
-    ensures { IfOk result (λ done. Learns client.old client.new (λ history.
-        IsTrue done → AddsSeats (history version) key members rows.old.items rows.new.items)) }
+    ensures { MatchResult result
+        (λ done. Learns client.old client.new (λ history.
+        IsTrue done → AddsSeats (history version) key members rows.old.items rows.new.items))
+        (λ failure. StopsAsking IsReadLine failure client.old client.new) }
 {
     for index in 0..members {
         let Some(shown) = ask_member(client, key, index)? else {
@@ -54,8 +57,10 @@ fn push_group<D: Wire + Drop>(
     groups: &mut Vec<GroupCount>,
     members: &mut Vec<MemberCount>,
 ) -> Result<bool, AskFailure>
-    ensures { IfOk result (λ done. Learns client.old client.new (λ history. IsTrue done →
-        AddsGroup (history version) index groups.old.items groups.new.items members.old.items members.new.items)) }
+    ensures { MatchResult result
+        (λ done. Learns client.old client.new (λ history. IsTrue done →
+        AddsGroup (history version) index groups.old.items groups.new.items members.old.items members.new.items))
+        (λ failure. StopsAsking IsReadLine failure client.old client.new) }
 {
     let Some(shown) = ask_group(client, index)? else {
         return Ok(false);
@@ -81,8 +86,10 @@ fn push_groups<D: Wire + Drop>(
     groups: &mut Vec<GroupCount>,
     members: &mut Vec<MemberCount>,
 ) -> Result<bool, AskFailure>
-    ensures { IfOk result (λ done. Learns client.old client.new (λ history. IsTrue done →
-        AddsFirstGroups (history shown.version) shown.groups groups.old.items groups.new.items members.old.items members.new.items)) }
+    ensures { MatchResult result
+        (λ done. Learns client.old client.new (λ history. IsTrue done →
+        AddsFirstGroups (history shown.version) shown.groups groups.old.items groups.new.items members.old.items members.new.items))
+        (λ failure. StopsAsking IsReadLine failure client.old client.new) }
 {
     for index in 0..shown.groups {
         if !push_group(client, shown.version, index, groups, members)? {
@@ -97,8 +104,10 @@ pub(crate) fn read_frame<D: Wire + Drop>(
     client: &mut Client<D>,
     shown: Shown,
 ) -> Result<Option<Counters>, AskFailure>
-    ensures { IfOk result (λ answer. Learns client.old client.new (λ history. IsShownOf (history shown.version) shown →
-        IfSome answer (λ frame. (frame.version ≡ shown.version) × IsFrameOf (history frame.version) frame))) }
+    ensures { MatchResult result
+        (λ answer. Learns client.old client.new (λ history. IsShownOf (history shown.version) shown →
+        IfSome answer (λ frame. (frame.version ≡ shown.version) × IsFrameOf (history frame.version) frame)))
+        (λ failure. StopsAsking IsReadLine failure client.old client.new) }
 {
     let mut groups = Vec::new(client.allocator());
     let mut members = Vec::new(client.allocator());

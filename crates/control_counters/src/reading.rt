@@ -1,7 +1,8 @@
 //! One reading of all counters of a switch (docs/COMMANDS.md, "metrics").
 
-ghost use Rattle.std.specs.Prelude.{◌≡◌, IfErr, IfOk, IfSome, IsTrue, Some};
+ghost use Rattle.std.specs.Prelude.{◌≡◌, IfErr, IfSome, IsTrue, MatchResult, Some};
 ghost use Rattle.control_rules.specs.Shown.{IsShownOf};
+ghost use Rattle.control_counters.specs.Failing.{FailsCounting, FailsWatching};
 ghost use Rattle.control_counters.specs.Reading.{AreCountersOf, IsKnown};
 ghost use Rattle.control_counters.specs.Watching.{Watches};
 ghost use Rattle.control_counters.specs.body.Framed.{AreCountsOf};
@@ -47,8 +48,10 @@ fn recounted<R: Clock, D: Wire + Drop>(
     client: &mut Client<D>,
     known: &Counters,
 ) -> Result<Option<Reading>, AskFailure>
-    ensures { IfOk result (λ answer. Watches client.old client.new (λ history told. IsKnown history (Some known.entry) →
-        IfSome answer (λ reading. AreCountsOf history known.entry.now.version told reading.counters))) }
+    ensures { MatchResult result
+        (λ answer. Watches client.old client.new (λ history told. IsKnown history (Some known.entry) →
+        IfSome answer (λ reading. AreCountsOf history known.entry.now.version told reading.counters)))
+        (λ failure. FailsWatching (λ told. Unit {0}) failure client.old client.new) }
 {
     let begun = now(clock)?;
     let Some(counters) = counted(client, known)? else {
@@ -66,8 +69,10 @@ fn read_anew<R: Clock, D: Wire + Drop>(
     client: &mut Client<D>,
     shown: Shown,
 ) -> Result<Option<Reading>, AskFailure>
-    ensures { IfOk result (λ answer. Watches client.old client.new (λ history told. IsShownOf (history shown.version) shown →
-        IfSome answer (λ reading. AreCountsOf history shown.version told reading.counters))) }
+    ensures { MatchResult result
+        (λ answer. Watches client.old client.new (λ history told. IsShownOf (history shown.version) shown →
+        IfSome answer (λ reading. AreCountsOf history shown.version told reading.counters)))
+        (λ failure. FailsWatching (λ told. Unit {0}) failure client.old client.new) }
 {
     let Some(frame) = read_frame(client, shown)? else {
         return Ok(None);
@@ -84,8 +89,10 @@ fn read_once<R: Clock, D: Wire + Drop>(
     client: &mut Client<D>,
     earlier: Option<&Counters>,
 ) -> Result<Option<Reading>, AskFailure>
-    ensures { IfOk result (λ answer. Watches client.old client.new (λ history told. IsKnown history earlier.entry →
-        IfSome answer (λ reading. AreCountersOf history told reading.counters))) }
+    ensures { MatchResult result
+        (λ answer. Watches client.old client.new (λ history told. IsKnown history earlier.entry →
+        IfSome answer (λ reading. AreCountersOf history told reading.counters)))
+        (λ failure. FailsCounting failure client.old client.new) }
 {
     let Some(shown) = ask_measures(client)? else {
         return Ok(None);
@@ -107,8 +114,10 @@ pub fn read_counters<R: Clock, D: Wire + Drop>(
     client: &mut Client<D>,
     earlier: Option<&Counters>,
 ) -> Result<Option<Reading>, AskFailure>
-    ensures { IfOk result (λ answer. Watches client.old client.new (λ history told. IsKnown history earlier.entry →
-        IfSome answer (λ reading. AreCountersOf history told reading.counters))) }
+    ensures { MatchResult result
+        (λ answer. Watches client.old client.new (λ history told. IsKnown history earlier.entry →
+        IfSome answer (λ reading. AreCountersOf history told reading.counters)))
+        (λ failure. FailsCounting failure client.old client.new) }
 {
     let mut known = earlier;
     for _turn in 0..=AGAIN {

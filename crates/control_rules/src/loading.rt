@@ -63,7 +63,7 @@ pub(crate) fn read_running<D: Wire + Drop>(
 ) -> Result<Option<Running>, AskFailure>
     ensures { MatchResult result
         (λ answer. Learns client.old client.new (λ history.
-            IfSome answer (λ running. words_config running.config ≡ words_config (history running.version))))
+        IfSome answer (λ running. words_config running.config ≡ words_config (history running.version))))
         (λ failure. StopsAsking IsReadLine failure client.old client.new) }
 {
     control_line::one_request();

@@ -3,6 +3,8 @@ use Rattle.control_client.specs.Exchange.{Exchange}
 use Rattle.control_rules.proofs.FoundLemmas.{some_holds}
 use Rattle.control_counters.specs.Frame.{keys_of, seats_of}
 use Rattle.control_counters.proofs.WatchLemmas.{watches_then, watches_weaker}
+use Rattle.control_rules.proofs.StopLemmas.{err_is}
+use Rattle.control_counters.proofs.WatchLemmas.{stops_watching}
 use Rattle.control_counters.proofs.counting.counted.Goals as goal
 
 pub returns-in_default-2 : goal.returns-in_default-2
@@ -28,3 +30,19 @@ returns g c =
       it.whole ∙ ap₂ (λ (a b : List Exchange). a ++ b) (it.first.whole ∙ ap₂ (λ (a b : List Exchange). a ++ b) totals groups.1) members.1,
     ))
     (watches_then c.args.client.now c.count_groups.new.client c.count_members.new.client _ _ two c.in_ok-members.ensures)
+
+pub returns-in_err-totals : goal.returns-in_err-totals
+returns-in_err-totals g c =
+    rw (err_is c.from_residual.result c.in_err-totals.field-0.0 c.from_residual.ensures.1)
+    (c.in_err-totals.ensures)
+
+pub returns-in_err-groups : goal.returns-in_err-groups
+returns-in_err-groups g c =
+    rw (err_is c.from_residual-in_err-groups.result c.in_err-groups.field-0.0 c.from_residual-in_err-groups.ensures.1)
+    (stops_watching c.in_err-groups.field-0.0 c.args.client.now c.ask_totals.new.client c.count_groups.new.client _ c.in_ok-totals.ensures c.in_err-groups.ensures)
+
+pub returns-in_err-members : goal.returns-in_err-members
+returns-in_err-members g c =
+    rw (err_is c.from_residual-in_err-members.result c.in_err-members.field-0.0 c.from_residual-in_err-members.ensures.1)
+    (stops_watching c.in_err-members.field-0.0 c.args.client.now c.count_groups.new.client c.count_members.new.client _
+    (watches_then c.args.client.now c.ask_totals.new.client c.count_groups.new.client _ _ c.in_ok-totals.ensures c.in_ok-groups.ensures) c.in_err-members.ensures)

@@ -3,6 +3,7 @@ use Rattle.std.proofs.lemmas.Bool.{false≢true}
 use Rattle.control_rules.proofs.LearnLemmas.{learns_nothing, learns_then, learns_weaker}
 use Rattle.control_counters.specs.body.Framed.{AddsFirstGroups}
 use Rattle.control_counters.proofs.FrameLemmas.{groups_begin}
+use Rattle.control_rules.proofs.StopLemmas.{err_is, stops_after}
 use Rattle.control_counters.proofs.frame.push_groups.Goals as goal
 
 pub loop-index-init : goal.loop-index-init
@@ -26,3 +27,8 @@ returns g c =
     (λ history are first done.
     subst (λ n. AddsFirstGroups (history c.args.shown.version) n c.args.groups.now.items c.loop-index.groups.items c.args.members.now.items c.loop-index.members.items) all first)
     c.loop-index.invariant
+
+pub returns-in_err-push_group : goal.returns-in_err-push_group
+returns-in_err-push_group g c =
+    rw (err_is c.from_residual.result c.in_err-push_group.field-0.0 c.from_residual.ensures.1)
+    (stops_after c.in_err-push_group.field-0.0 c.args.client.now c.loop-index.client c.push_group.new.client _ c.loop-index.invariant c.in_err-push_group.ensures)
