@@ -4,7 +4,6 @@ use Rattle.control_rules.specs.Rules.{rules_file}
 use Rattle.control_rules.proofs.FoundLemmas.{some_holds}
 use Rattle.control_rules.proofs.LearnLemmas.{learns_weaker}
 use Rattle.control_rules.proofs.MeaningLemmas.{file_words}
-use Rattle.control_rules.specs.declared.ask_failure.AskFailure.TheVariants.{OutOfMemory}
 use Rattle.control_rules.proofs.StopLemmas.{err_is, stops_unstored}
 use Rattle.control_rules.proofs.loading.read_running.Goals as goal
 
