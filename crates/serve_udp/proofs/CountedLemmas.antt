@@ -9,9 +9,9 @@ use Rattle.dispatch.specs.Batch.{Parts}
 use Rattle.dispatch.specs.Counted.{IsCounted}
 use Rattle.dispatch.specs.Device.{SourceValue}
 use Rattle.dispatch.specs.declared.kind.Totals.{Totals}
-use Rattle.serve_devices.specs.Devices.{WorkerSourceValue, new_source, source_of}
+use Rattle.serve_devices.specs.Devices.{WorkerSourceValue, source_of}
 use Rattle.serve_udp.specs.Service.{AreServiceStarts, AreStartsOf, BeginsCounted, BeginsServedAt, HasSilentDevices, HasSilentOutbox, WritesCounted, WritesServedAt, ready_begun, totals_begun}
-use Rattle.serve_udp.specs.body.Jobs.{AreNewSources}
+use Rattle.serve_udp.specs.body.Jobs.{AreNewSources, IsNewSource}
 use Rattle.serve_udp.specs.declared.jobs.TheConstants.{LIMIT}
 use Rattle.serve_udp.specs.declared.sockets.TheConstants.{LONGEST_DATAGRAM}
 
@@ -52,7 +52,7 @@ silent_starts workers sources starts new are = (
       (All-same (λ (s : SourceValue). s ≡ silent_source) (map (λ (start : Parts). start.source) starts) (map source_of (reverse sources)) are.their_sources
       (All-map (λ (s : SourceValue). s ≡ silent_source) source_of (reverse sources)
       (all_reversed (λ (s : WorkerSourceValue). source_of s ≡ silent_source) sources
-      (All-weaker (λ (s : WorkerSourceValue). s ≡ new_source LONGEST_DATAGRAM None) (λ (s : WorkerSourceValue). source_of s ≡ silent_source) (λ s is. ap source_of is) sources new.1))))
+      (All-weaker IsNewSource (λ (s : WorkerSourceValue). source_of s ≡ silent_source) (λ s is. ap source_of is) sources new.1))))
       are.silent_outboxes,
 )
 

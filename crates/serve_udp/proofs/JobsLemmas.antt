@@ -9,23 +9,21 @@ use Rattle.dispatch.specs.declared.device.Source as Source
 use Rattle.dispatch.specs.declared.worker_job.Job.{Job}
 use Rattle.dispatch.specs.Counted.{IsNew, IsNewWorker}
 use Rattle.read_section.specs.Worker.{WorkerValue}
-use Rattle.serve_devices.specs.Devices.{MemberOutboxValue, WorkerSourceValue, new_outbox, new_source}
+use Rattle.serve_devices.specs.Devices.{MemberOutboxValue, WorkerSourceValue, new_outbox}
 use Rattle.serve_udp.specs.Service.{HasRoom}
-use Rattle.serve_udp.specs.body.Jobs.{AreMade, AreNewSources, sources_of}
-use Rattle.serve_udp.specs.declared.sockets.TheConstants.{LONGEST_DATAGRAM}
+use Rattle.serve_udp.specs.body.Jobs.{AreMade, AreNewSources, IsNewSource, sources_of}
 
 pub no_source : (sources : List WorkerSourceValue) → sources ≡ [] → AreNewSources 0 sources
-no_source sources none = (ap length none, All-same (λ source. source ≡ new_source LONGEST_DATAGRAM None) sources [] none (All-nil (λ source. source ≡ new_source LONGEST_DATAGRAM None)))
+no_source sources none = (ap length none, All-same IsNewSource sources [] none (All-nil IsNewSource))
 
 pub one_source : (many : ℕ) (sources sources' : List WorkerSourceValue) (source : WorkerSourceValue) → sources' ≡ sources ++ source ∷ []
-    → source ≡ new_source LONGEST_DATAGRAM None → AreNewSources many sources → AreNewSources (many + 1) sources'
+    → IsNewSource source → AreNewSources many sources → AreNewSources (many + 1) sources'
 one_source many sources sources' source pushed new all =
     let more = ap length pushed in
     let one = length-append sources (source ∷ []) in
     let before = all.0 in (
       omega (arith, more, one, before),
-      All-same (λ s. s ≡ new_source LONGEST_DATAGRAM None) sources' (sources ++ source ∷ []) pushed
-          (All-push (λ s. s ≡ new_source LONGEST_DATAGRAM None) sources source all.1 new),
+      All-same IsNewSource sources' (sources ++ source ∷ []) pushed (All-push IsNewSource sources source all.1 new),
     )
 
 module _ {source : Source.Ghosts WorkerSourceValue} {outbox : Outbox.Ghosts MemberOutboxValue} where

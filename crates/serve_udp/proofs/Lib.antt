@@ -1,4 +1,5 @@
 mod CountedLemmas
+mod FrontTurnLemmas
 mod JobsLemmas
 mod ServingLemmas
 mod TurnLemmas

@@ -1,4 +1,5 @@
 pub mod Control
 pub mod Front
+pub mod FrontTurn
 pub mod Service
 pub mod body

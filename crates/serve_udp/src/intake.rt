@@ -1,7 +1,8 @@
 //! The ways from the front to the workers (docs/COMMANDS.md, "How it receives").
 
-ghost use Rattle.std.specs.Prelude.{◌≡◌, ◌≤◌, ◌+◌, ◌++◌, ◌∷◌, IfErr, IfOk, None, OnOk, [], length, vec_len};
+ghost use Rattle.std.specs.Prelude.{◌≡◌, ◌≤◌, ◌+◌, ◌++◌, ◌∷◌, IfErr, IfOk, None, OnOk, Some, [], length, option_map, vec_len};
 ghost use Rattle.serve_devices.specs.Devices.{new_source};
+ghost use Rattle.serve_devices.specs.Ingress.{cut_to};
 ghost use Rattle.serve_udp.specs.declared.sockets.TheConstants.{LONGEST_DATAGRAM};
 ghost use Rattle.serve_udp.specs.body.Jobs.{AreNewSources};
 
@@ -60,7 +61,8 @@ fn add_source<I: Ingress + Drop>(
     sources: &mut Vec<WorkerSource<I>>,
 ) -> Result<(), Failure>
     requires silent { I.coming ingress ≡ None }
-    ensures added { OnOk result (sources.new.items ≡ sources.old.items ++ new_source LONGEST_DATAGRAM None ∷ []) }
+    ensures added { OnOk result (sources.new.items ≡ sources.old.items
+        ++ new_source LONGEST_DATAGRAM None (option_map (cut_to LONGEST_DATAGRAM) (I.past ingress)) ∷ []) }
     ensures failed { IfErr result (λ failure. failure ≡ Failure.OutOfMemory) }
 {
     let room = new_room(alloc)?;
@@ -78,7 +80,7 @@ fn add_queue<'a, R: Wait>(
     sources: &mut Vec<WorkerSource<QueueIngress<'a, R>>>,
     queues: &mut Vec<WorkerQueue>,
 ) -> Result<(), Failure>
-    ensures added { OnOk result (sources.new.items ≡ sources.old.items ++ new_source LONGEST_DATAGRAM None ∷ []) }
+    ensures added { OnOk result (sources.new.items ≡ sources.old.items ++ new_source LONGEST_DATAGRAM None (Some []) ∷ []) }
     ensures queued { OnOk result (vec_len queues.new ≡ vec_len queues.old + 1) }
     ensures failed { IfErr result (λ failure. failure ≡ Failure.OutOfMemory) }
 {

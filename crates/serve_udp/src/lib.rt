@@ -9,14 +9,16 @@ ghost use Rattle.std.specs.Prelude.{◌≡◌, ◌≢◌, ◌⊎◌, ◌↔◌, 
 ghost use Rattle.member_group.specs.Charge.{charge_of};
 ghost use Rattle.versions.specs.declared.layout.TheConstants.{CHARGE_LIMIT, WORKERS};
 ghost use Rattle.command_streams.specs.Failures.{OutputFails};
+ghost use Rattle.serve_udp.specs.declared.front_turn.TheConstants.{FRONT_TURN};
 ghost use Rattle.serve_udp.specs.declared.jobs.TheConstants.{LIMIT};
-ghost use Rattle.serve_udp.specs.Service.{AreStartsOf, BeginsCounted, BeginsServed, BeginsServedAt, BeginsServedFrom, IsServeFailure, WritesCounted, WritesReadyOrNothing, WritesServed, WritesServedAt, WritesServedFrom};
+ghost use Rattle.serve_udp.specs.Service.{AreStartsOf, BeginsCounted, BeginsServed, BeginsServedAt, BeginsServedFrom, HasReady, IsServeFailure, WritesCounted, WritesReadyOrNothing, WritesServed, WritesServedAt, WritesServedFrom};
 ghost use Rattle.serve_udp.specs.Front.{HasFronts};
 ghost use Rattle.serve_udp.specs.body.Jobs.{AreTotalsOf, HaveNewCounters};
 
 mod bound;
 mod control_turn;
 mod front;
+mod front_turn;
 mod intake;
 mod jobs;
 mod opening;
@@ -31,6 +33,7 @@ use command_totals::write_totals;
 use dispatch::{Gate, NamedTally, RunFault, TallyName, Totals, gather, run_counted};
 use front::BoundFront;
 pub use front::FrontRequest;
+pub use front_turn::{Arrived, FRONT_TURN, FrontWire, hand_datagrams};
 use intake::{Intake, direct_intake, queued_intake};
 use ipv4_fields::Endpoint;
 use jobs::ServiceJob;
@@ -55,6 +58,7 @@ use std::thread::Threads;
 pub fn limits_as_numbers()
     ensures datagram { LONGEST_DATAGRAM ≡ 65535 }
     ensures batch { LIMIT ≡ 64 }
+    ensures front { FRONT_TURN ≡ 64 }
 {}
 
 fn failed(fault: RunFault) -> Failure
@@ -136,6 +140,7 @@ fn serve_intake<
     ensures no_input { IfErr result IsServeFailure }
     ensures not_bound { result ≡ Err Failure.BindFailed → out.new ≡ out.old }
     ensures ready_or_nothing { IfErr result (λ failure. failure ≢ Failure.WriteFailed → WritesReadyOrNothing (W.contents out.old) (W.contents out.new)) }
+    ensures quiet { IfErr result (λ failure. failure ≡ Failure.WriteFailed → (log.new ≡ log.old) ⊎ HasReady (W.contents out.old) (W.contents out.new)) }
     ensures begun { IfErr result (λ failure. failure ≡ Failure.WriteFailed → BeginsCounted control.entry config (AreStartsOf intake.entry.sources.items) (W.contents out.old) (W.contents out.new)) }
     ensures device_failed { OutputFails result (W.failures out.old) (W.failures out.new) }
 {
@@ -176,6 +181,7 @@ pub fn serve_bound<R: Threads + Wait + Net + Sync, G: Gate + Sync, W: CountedWri
     ensures no_input { IfErr result IsServeFailure }
     ensures not_bound { result ≡ Err Failure.BindFailed → out.new ≡ out.old }
     ensures ready_or_nothing { IfErr result (λ failure. failure ≢ Failure.WriteFailed → WritesReadyOrNothing (W.contents out.old) (W.contents out.new)) }
+    ensures quiet { IfErr result (λ failure. failure ≡ Failure.WriteFailed → (log.new ≡ log.old) ⊎ HasReady (W.contents out.old) (W.contents out.new)) }
     ensures begun { IfErr result (λ failure. failure ≡ Failure.WriteFailed → BeginsServedAt sockets.entry.place config workers (W.contents out.old) (W.contents out.new)) }
     ensures device_failed { OutputFails result (W.failures out.old) (W.failures out.new) }
 {

@@ -1,7 +1,11 @@
 //! The sockets of the service, and the turns that they get (docs/COMMANDS.md, "serve").
 
+ghost use Rattle.std.specs.Prelude.{◌≡◌, None, false, true};
+ghost use Rattle.serve_udp.specs.FrontTurn.{IsFrontTurn};
+
 use crate::bound::BoundControl;
 use crate::control_turn::{Asked, CONTROL_TURN, ControlWire, Next, answer_datagrams};
+use crate::front_turn::{Arrived, FrontWire, hand_datagrams};
 use crate::intake::{QueuedFront, Receiving};
 use dispatch::{NamedTally, TallyName};
 use ipv4_fields::Endpoint;
@@ -22,9 +26,6 @@ const FRONT: Token = Token(0);
 
 // The token of control, or the first of those of control over a Unix socket.
 const CONTROL: Token = Token(1);
-
-// The number of datagrams that the front gives before control has its turn.
-const FRONT_TURN: usize = 64;
 
 // One event a socket: the front, control, and its clients.
 const EVENTS: usize = 2 + CLIENTS;
@@ -111,22 +112,39 @@ pub struct Sockets<'a> {
     control: Control,
 }
 
+// The socket of the front. The datagrams that come are not known.
+#[derive(Drop)]
+struct SocketFront<'a> {
+    socket: &'a UdpSocket,
+}
+
+impl FrontWire for SocketFront<'_> {
+    ghost use Rattle.std.specs.Prelude.{None};
+
+    ghost log = { λ _. None };
+
+    fn receive(&mut self, buf: &mut [u8]) -> Arrived {
+        match self.socket.recv(buf) {
+            Ok(size) => Arrived::Datagram(size),
+            Err(error) if error.kind() == ErrorKind::WouldBlock => Arrived::Nothing,
+            Err(_) => Arrived::Failed,
+        }
+    }
+}
+
 impl QueuedFront {
-    // Hands the next datagrams to the workers in turn, a failed receive too.
-    fn turn<R: Wait>(&mut self, rt: &R, buf: &mut [u8]) {
+    // Hands the next datagrams to the workers in turn, a failed receive too, unless the front is known to be empty.
+    fn turn<R: Wait>(&mut self, rt: &R, buf: &mut [u8])
+        ensures handed_on { self.old.is_ready ≡ true → IsFrontTurn None None self.old.queues self.new.queues self.new.is_ready }
+        ensures idle { self.old.is_ready ≡ false → (self.new.queues ≡ self.old.queues) × (self.new.is_ready ≡ false) }
+    {
         if !self.is_ready {
             return;
         }
-        for _ in 0..FRONT_TURN {
-            match self.socket.recv(buf) {
-                Ok(size) => self.queues.arrive(rt, Some(&buf[..size])),
-                Err(error) if error.kind() == ErrorKind::WouldBlock => {
-                    self.is_ready = false;
-                    return;
-                }
-                Err(_) => self.queues.arrive(rt, None),
-            }
-        }
+        let mut wire = SocketFront {
+            socket: &self.socket,
+        };
+        self.is_ready = hand_datagrams(rt, &mut wire, &mut self.queues, buf);
     }
 }
 

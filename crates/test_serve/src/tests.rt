@@ -3,4 +3,5 @@
 mod beginning;
 mod busy;
 mod client;
+mod front;
 mod loopback;

@@ -17,9 +17,13 @@ use Rattle.serve_devices.specs.Devices.{MemberOutboxValue, WorkerSourceValue, ne
 use Rattle.serve_udp.specs.Service.{HasRoom}
 use Rattle.serve_udp.specs.declared.sockets.TheConstants.{LONGEST_DATAGRAM}
 
--- so many sources that gave none yet, and whose datagrams are not known
+-- a source that gave none yet, and whose datagrams to come are not known
+abbrev pub IsNewSource : WorkerSourceValue → Type 0
+IsNewSource source = source ≡ new_source LONGEST_DATAGRAM None source.past
+
+-- so many of them
 abbrev pub AreNewSources : ℕ → List WorkerSourceValue → Type 0
-AreNewSources many sources = (length sources ≡ many) × All (λ (source : WorkerSourceValue). source ≡ new_source LONGEST_DATAGRAM None) sources
+AreNewSources many sources = (length sources ≡ many) × All IsNewSource sources
 
 module _ {source : Source.Ghosts WorkerSourceValue} {outbox : Outbox.Ghosts MemberOutboxValue} where
   -- jobs with new counters of one tally, whose other counters are spare
