@@ -54,7 +54,10 @@ fn come_in_order<R: Abort + Wait>(rt: &R, ingress: &mut QueueIngress<'_, R>, fro
         if number == FAILED {
             assert!(rt; received == Some(Err(Failed)), "receive {number}");
         } else {
-            assert!(rt; (received, buf[0]) == (Some(Ok(1)), number), "receive {number}");
+            assert!(rt;
+                (received, buf[0]) == (Some(Ok(1)), number),
+                "receive {number}"
+            );
         }
     }
     assert!(rt; ingress.try_receive(&mut buf).is_none());
