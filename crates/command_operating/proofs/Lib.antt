@@ -1,8 +1,9 @@
 mod ShowingLemmas
+mod LoadingLemmas
 mod MeasuringLemmas
 mod TellingLemmas
 mod OpeningLemmas
 mod ReportLemmas
-mod PrintingLemmas
+pub mod PrintingLemmas
 mod ScreenLemmas
 pub mod CauseLemmas
