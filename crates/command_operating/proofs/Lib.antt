@@ -6,4 +6,5 @@ mod OpeningLemmas
 mod ReportLemmas
 pub mod PrintingLemmas
 mod ScreenLemmas
+mod BegunLemmas
 pub mod CauseLemmas
