@@ -6,7 +6,7 @@ use Rattle.command_waiting.proofs.serving.run_serve.Goals as goal
 
 pub returns-in_default-clause-failed : goal.returns-in_default-clause-failed
 returns-in_default-clause-failed g c = λ is.
-    fails_unwritten _ _ _ _ _ _ _ _ _ (inl c.in_default.ensures) c.refuse_address.ensures.beginning (c.refuse_address.ensures.failed is)
+    fails_unwritten _ _ _ _ _ _ _ _ _ (inl (rw c.as_bytes.ensures.value at c.in_default.ensures)) c.refuse_address.ensures.beginning (c.refuse_address.ensures.failed is)
 
 pub returns-in_default-from_text-clause-failed : goal.returns-in_default-from_text-clause-failed
 returns-in_default-from_text-clause-failed g c =
@@ -27,7 +27,7 @@ returns-in-Err-clause-refused g c = λ is.
 pub returns-in_default-clause-device_failed : goal.returns-in_default-clause-device_failed
 returns-in_default-clause-device_failed g c =
     refuses_once _ _ _ _ _ c.refuse_address.result refl
-    (λ is. fail_unwritten _ _ _ _ _ _ _ _ _ (inl c.in_default.ensures) c.refuse_address.ensures.beginning (c.refuse_address.ensures.failed is))
+    (λ is. fail_unwritten _ _ _ _ _ _ _ _ _ (inl (rw c.as_bytes.ensures.value at c.in_default.ensures)) c.refuse_address.ensures.beginning (c.refuse_address.ensures.failed is))
     c.refuse_address.ensures.device_failed
 
 pub returns-in_default-from_text-clause-device_failed : goal.returns-in_default-from_text-clause-device_failed
