@@ -33,6 +33,9 @@ output_cause A B PollFailed read written written' other output = (refl, output)
 output_cause A B NoAnswer read written written' other output = (refl, output)
 output_cause A B RulesChanged read written written' other output = (refl, output)
 
+pub write_unread : (failure : Failure) → failure ≡ WriteFailed → failure ≢ ReadFailed
+write_unread failure is same = cc
+
 -- ---- statuses
 
 module _ (Reports : Failure → Type 0) where

@@ -1,8 +1,10 @@
 mod ShowingLemmas
+mod LoadingLemmas
 mod MeasuringLemmas
 mod TellingLemmas
 mod OpeningLemmas
 mod ReportLemmas
-mod PrintingLemmas
+pub mod PrintingLemmas
 mod ScreenLemmas
+mod BegunLemmas
 pub mod CauseLemmas

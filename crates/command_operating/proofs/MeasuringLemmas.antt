@@ -1,6 +1,6 @@
 -- What the counters that were read make of `metrics` and `top`.
 use Rattle.std.proofs.Common.{◌≡◌, ◌≢◌, ◌∙◌, ◌<◌, ◌+◌, ◌⊎◌, ◌++◌, Bool, List, None, Option, Some, [], ap, append-nil, append_assoc, inl, inr, refl, subst, sym, ℕ}
-use Rattle.std.specs.Prelude.{Err, IfErr, IsErrAnd, Ok, OnOk, Result, option_map}
+use Rattle.std.specs.Prelude.{Err, IfErr, IsErrAnd, Ok, OnErr, OnOk, Result, option_map}
 use Rattle.std.specs.Borrow.{Bor}
 use Rattle.std.specs.Io.KnownBytes.{Appends}
 use Rattle.clap.specs.Words.{Text}
@@ -25,15 +25,17 @@ use Rattle.control_rules.specs.History.{ClientValue, History}
 use Rattle.control_counters.specs.Frame.{IsFrameOf}
 use Rattle.control_counters.specs.Reading.{AreCountersOf}
 use Rattle.control_counters.specs.Watching.{Watches}
+use Rattle.counter_text.specs.Metrics.{metrics_text}
 use Rattle.counter_text.specs.Screen.{screen_text}
 use Rattle.counter_text.specs.declared.counters.Counters.{Counters}
 use Rattle.counter_text.specs.declared.counters.FrontDrops.{FrontDrops}
-use Rattle.command_operating.specs.Measured.{AreFrontDrops, AreScreens, EndsByCauseOrTable, PrintsTop, ShowsNoDrops, TopFails, WatchesOf, WritesMetrics, WritesScreens, WritesTop, clear_text, first_reading, one_more}
-use Rattle.command_operating.specs.Printing.{Begins}
+use Rattle.command_operating.specs.Measured.{AreFrontDrops, AreScreens, EndsByCauseOrTable, IsNoFront, MayFailMeasuring, PrintsMetrics, PrintsTop, ShowsNoDrops, TopFails, WatchesOf, WritesMetrics, WritesScreens, WritesTop, clear_text, first_reading, one_more}
+use Rattle.command_operating.specs.Printing.{Begins, IsAskFault, PrintFails}
 use Rattle.command_operating.specs.Reported.{IsTold, told_alone}
 use Rattle.control_counters.proofs.WatchLemmas.{watches_then, watches_weaker}
-use Rattle.command_operating.specs.body.Front.{FailsByTable, IsDropless, IsFrontOf, IsGivenFront, PrintsMetrics}
+use Rattle.command_operating.specs.body.Front.{FailsByTable, IsDropless, IsFrontOf, IsGivenFront, WritesCounters}
 use Rattle.command_operating.specs.body.Screens.{Shows, ShowsFewer, ShowsMore}
+use Rattle.command_operating.proofs.PrintingLemmas.{begins_as, begins_text, fault_as, print_fail}
 
 pub watched : (before after : ClientValue) (switch : Peer) (Holds : History → List Exchange → Type 0) → before.switch ≡ switch → Watches before after Holds → WatchesOf switch Holds
 watched before after switch Holds is watches = record {
@@ -44,13 +46,14 @@ watched before after switch Holds is watches = record {
 }
 
 -- the drops of the front that is given
-pub drops_given : (front : Option Text) (endpoint : Option Endpoint) (drops : Option FrontDrops) → IsGivenFront front endpoint → IsFrontOf endpoint drops → AreFrontDrops front drops
-drops_given None None None given of = tt
-drops_given None None (Some it) given of = of
-drops_given None (Some e) drops given of = absurd given
-drops_given (Some text) None drops given of = absurd given
-drops_given (Some text) (Some e) None given of = of
-drops_given (Some text) (Some e) (Some it) given of = (
+pub drops_given : (known : Option (List ℕ)) (front : Option Text) (endpoint : Option Endpoint) (drops : Option FrontDrops) → IsGivenFront front endpoint
+    → IsFrontOf known endpoint drops → AreFrontDrops known front drops
+drops_given known None None None given of = tt
+drops_given known None None (Some it) given of = of
+drops_given known None (Some e) drops given of = absurd given
+drops_given known (Some text) None drops given of = absurd given
+drops_given known (Some text) (Some e) None given of = of
+drops_given known (Some text) (Some e) (Some it) given of = (
   subst (λ (front : Endpoint). IsEndpoint front) (sym of.0) given.0,
   given.1 ∙ ap endpoint_text (sym of.0),
   of.1,
@@ -129,28 +132,74 @@ writes_screens before after switch clears count out out' is shows = record {
   written = shows.written;
 }
 
-pub writes_metrics : (control : Text) (address : ControlAddress) (front : Option Text) (endpoint : Option Endpoint) (before after : Option (List ℕ)) →
-    SpellsControlAddress control address → IsGivenFront front endpoint → PrintsMetrics (peer_of address) endpoint before after → WritesMetrics control front before after
-writes_metrics control address front endpoint before after spells given prints = record {
+pub writes_metrics : (control : Text) (known : Option (List ℕ)) (address : ControlAddress) (front : Option Text) (endpoint : Option Endpoint) (before after : Option (List ℕ)) →
+    SpellsControlAddress control address → IsGivenFront front endpoint → WritesCounters (peer_of address) known endpoint before after
+    → WritesMetrics control known front before after
+writes_metrics control known address front endpoint before after spells given prints = record {
   address = address;
   is_address = spells;
   counters = prints.counters;
   drops = prints.drops;
   are_counters = prints.are_counters;
-  are_drops = drops_given front endpoint prints.drops given prints.are_drops;
+  are_drops = drops_given known front endpoint prints.drops given prints.are_drops;
   written = prints.written;
 }
+
+-- why and how `metrics` failed
+front_is_good : (front : Option Text) (endpoint : Option Endpoint) → IsGivenFront front endpoint → IsNoFront front → ⊥
+front_is_good None endpoint given none = none
+front_is_good (Some text) None given none = given
+front_is_good (Some text) (Some endpoint) given none = none endpoint given.0 given.1
+
+front_is_given : (front : Option Text) (endpoint : Option Endpoint) → IsGivenFront front endpoint → endpoint ≢ None → front ≢ None
+front_is_given None None given some is = some refl
+front_is_given None (Some endpoint) given some is = given
+front_is_given (Some text) endpoint given some is = cc
+
+pub fail_measuring : {X : Type 0} (control : Text) (known : Option (List ℕ)) (address : ControlAddress) (front : Option Text) (endpoint : Option Endpoint)
+    (contents : X → Option (List ℕ)) (old new : X) (told_before told_after : Option (List ℕ)) → SpellsControlAddress control address → IsGivenFront front endpoint
+    → (failure : Failure) → IsAskFault (endpoint ≢ None) address failure → (failure ≢ WriteFailed → new ≡ old)
+    → (failure ≡ WriteFailed → Begins (WritesCounters (peer_of address) known endpoint) (contents old) (contents new)) → IsTold (Some control) failure told_before told_after
+    → PrintFails (PrintsMetrics control known front) (MayFailMeasuring control front) (Some control) (contents old) (contents new) told_before told_after failure
+fail_measuring control known address front endpoint contents old new told_before told_after spells given failure fault unwritten begun told =
+    print_fail (PrintsMetrics control known front) (MayFailMeasuring control front) (Some control) contents old new told_before told_after failure
+    (front_is_good front endpoint given, (address, spells, fault_as (endpoint ≢ None) (front ≢ None) address failure (front_is_given front endpoint given) fault))
+    unwritten
+    (λ is.
+    begins_as (WritesCounters (peer_of address) known endpoint) (PrintsMetrics control known front) (contents old) (contents new)
+    (λ whole prints. inl (writes_metrics control known address front endpoint (contents old) whole spells given prints)) (begun is))
+    told
+
+-- a front that is given, of which nothing was read
+pub fault_of_table : {A : Type 0} (address : ControlAddress) (front : Option Endpoint) (result : Result A Failure) → OnErr result (front ≢ None)
+    → IfErr result (λ failure. (failure ≡ ReadFailed) ⊎ (failure ≡ OutOfMemory)) → IfErr result (IsAskFault (front ≢ None) address)
+fault_of_table address front (Ok value) given cause = tt
+fault_of_table address front (Err failure) given (inl is) = record { no_thread = λ same. cc; over_udp = λ same path. cc; of_file = λ same. given }
+fault_of_table address front (Err failure) given (inr is) = record { no_thread = λ same. cc; over_udp = λ same path. cc; of_file = λ same. given }
+
+-- the text of the counters was not written whole
+pub counters_begun : (switch : Peer) (known : Option (List ℕ)) (front : Option Endpoint) (before after : Option (List ℕ)) (counters : Counters) (drops : Option FrontDrops)
+    → WatchesOf switch (λ history told. AreCountersOf history told counters) → IsFrontOf known front drops → AppendsBeginning before after (metrics_text counters drops)
+    → Begins (WritesCounters switch known front) before after
+counters_begun switch known front before after counters drops are_counters are_drops so_far =
+    begins_text (WritesCounters switch known front) before after (metrics_text counters drops) so_far
+    (λ whole written. record { counters = counters; drops = drops; are_counters = are_counters; are_drops = are_drops; written = written })
 
 module _ (control : Text) (clears : Bool) (count : ℕ) (before after told_before told_after : Option (List ℕ)) where
   pub top_unwritten : Begins (PrintsTop control clears count) before after → AppendsBeginning told_before told_after (line_of WriteFailed)
       → TopFails control clears count before after told_before told_after WriteFailed
-  top_unwritten so_far told = record { written = λ other. absurd (other refl); begun = λ is. so_far; told = told_alone told }
+  top_unwritten so_far told = record { reason = λ other. absurd (other refl); written = λ other. absurd (other refl); begun = λ is. so_far; told = told_alone told }
 
   -- it failed at an address that was read
-  pub top_failed : (address : ControlAddress) (failure : Failure) → SpellsControlAddress control address
+  pub top_failed : (address : ControlAddress) (failure : Failure) → SpellsControlAddress control address → IsAskFault ⊥ address failure
       → (failure ≢ WriteFailed → ShowsFewer clears count (peer_of address) before after) → (failure ≡ WriteFailed → Begins (PrintsTop control clears count) before after)
       → IsTold (Some control) failure told_before told_after → TopFails control clears count before after told_before told_after failure
-  top_failed address failure spells fewer begun told = record { written = λ other. at_address (fewer other); begun = begun; told = told }
+  top_failed address failure spells fault fewer begun told = record {
+    reason = λ other. (address, spells, fault);
+    written = λ other. at_address (fewer other);
+    begun = begun;
+    told = told;
+  }
     where
       at_address : ShowsFewer clears count (peer_of address) before after
           → (after ≡ before) ⊎ ((shown : ℕ) × (shown < count) × WritesTop control clears shown before after)

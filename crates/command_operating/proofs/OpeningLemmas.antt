@@ -19,6 +19,7 @@ use Rattle.control_line.specs.Rules.{IsConfigOf, IsFaultOfFile, RefusesFileBy, b
 use Rattle.control_line.proofs.ChangeLemmas.{charged_alike}
 use Rattle.command_operating.specs.Opening.{EndsUnread, FailsUnread, IsMadeFrom, RefusesRules, file_refusal_text}
 use Rattle.command_operating.specs.body.Reading.{IsReadOf}
+use Rattle.command_operating.proofs.PrintingLemmas.{begins_text}
 
 -- all of a list was taken, or a list that is too long, too
 whole_or_long : (limit most : ℕ) (xs bytes : List ℕ) → limit < most → bytes ≡ take most xs
@@ -37,11 +38,11 @@ not_both : (a b : ℕ) → a < b → b ≤ a → ⊥
 not_both a b less more = omega (arith, less, more)
 
 module _ (xs bytes : List ℕ) (most : ℕ) (enough : BLOCK_LIMIT < most) (is : bytes ≡ take most xs) where
-  made_whole : (config : List Group) → IsConfigOf bytes config → IsConfigOf xs config
+  made_whole : (config : List Group) → IsConfigOf bytes config → bytes ≡ xs
   made_whole config made = of_length (whole_or_long BLOCK_LIMIT most xs bytes enough is)
     where
-      of_length : (bytes ≡ xs) ⊎ ((BLOCK_LIMIT < length xs) × (BLOCK_LIMIT < length bytes)) → IsConfigOf xs config
-      of_length (inl same) = subst (λ (text : List ℕ). IsConfigOf text config) same made
+      of_length : (bytes ≡ xs) ⊎ ((BLOCK_LIMIT < length xs) × (BLOCK_LIMIT < length bytes)) → bytes ≡ xs
+      of_length (inl same) = same
       of_length (inr over) = absurd (not_both BLOCK_LIMIT (length bytes) over.1 made.1.short.bytes)
 
   refused_whole : (line : Option ℕ) (why : Reason) → RefusesFileBy IsProgramFor bytes line why → RefusesFileBy IsProgramFor xs line why
@@ -56,13 +57,13 @@ module _ (xs bytes : List ℕ) (most : ℕ) (enough : BLOCK_LIMIT < most) (is : 
       of_length (inl same) = subst (λ (text : List ℕ). RefusesFileBy IsProgramFor text line why) same refused
       of_length (inr over) = of_refusal line why over refused
 
+-- all of the input was read, if it makes a configuration
+pub whole_of : (input : Option (List ℕ)) (bytes : List ℕ) → IsReadOf input bytes → (config : List Group) → IsConfigOf bytes config → IsInput input bytes
+whole_of None bytes read config made = tt
+whole_of (Some xs) bytes read config made = made_whole xs bytes read.most read.enough read.is_read config made
+
 pub made_of : (input : Option (List ℕ)) (bytes : List ℕ) → IsReadOf input bytes → (config : List Group) → IsConfigOf bytes config → IsMadeFrom input config
-made_of None bytes read config made = record { text = bytes; is_input = tt; made = made }
-made_of (Some xs) bytes read config made = record {
-  text = xs;
-  is_input = refl;
-  made = made_whole xs bytes read.most read.enough read.is_read config made;
-}
+made_of input bytes read config made = record { text = bytes; is_input = whole_of input bytes read config made; made = made }
 
 pub refused_of : (input before after : Option (List ℕ)) (bytes : List ℕ) → IsReadOf input bytes
     → (line : Option ℕ) (why : Reason) → IsFaultOfFile bytes (fault.Refused line why) → Appends before after (file_refusal_text line why)
@@ -94,35 +95,31 @@ pub read_of : {X : Type 0} (items : X → List ℕ) (known : Option (List ℕ)) 
 read_of items known most enough (Ok bytes) read = record { most = most; enough = enough; is_read = read }
 read_of items known most enough (Err failure) read = tt
 
--- the bytes of a file are not known outside
-pub made_unknown : (known : Option (List ℕ)) (config : List Group) → IsMadeFrom known config → IsMadeFrom None config
-made_unknown known config made = record { text = made.text; is_input = tt; made = made.made }
-
-pub refuses_unknown : (known before after : Option (List ℕ)) → RefusesRules known before after → RefusesRules None before after
-refuses_unknown known before after refuses = record {
-  text = refuses.text;
-  line = refuses.line;
-  why = refuses.why;
-  is_input = tt;
-  refused = refuses.refused;
-  written = refuses.written;
-}
-
 -- ---- there is no configuration
 
-module _ (before told_before told_after : Option (List ℕ)) where
+module _ (input before told_before told_after : Option (List ℕ)) where
   pub fails_reading : (failure : Failure) → (failure ≡ ReadFailed) ⊎ (failure ≡ OutOfMemory) → AppendsBeginning told_before told_after (line_of failure)
-      → FailsUnread before before told_before told_after failure
-  fails_reading failure (inl is) told = record { cause = inl is; unwritten = λ other. refl; told = told }
-  fails_reading failure (inr is) told = record { cause = inr (inl is); unwritten = λ other. refl; told = told }
+      → FailsUnread input before before told_before told_after failure
+  fails_reading failure (inl is) told = record { cause = inl is; unwritten = λ other. refl; begun = λ again. absurd (cc); told = told }
+  fails_reading failure (inr is) told = record { cause = inr (inl is); unwritten = λ other. refl; begun = λ again. absurd (cc); told = told }
 
   pub not_read : (failure : Failure) → (failure ≡ ReadFailed) ⊎ (failure ≡ OutOfMemory) → AppendsBeginning told_before told_after (line_of failure)
-      → EndsUnread before before told_before told_after
+      → EndsUnread input before before told_before told_after
   not_read failure is told = (failure, fails_reading failure is told)
 
-  pub fails_refusing : (after : Option (List ℕ)) → AppendsBeginning told_before told_after (line_of WriteFailed)
-      → FailsUnread before after told_before told_after WriteFailed
-  fails_refusing after told = record { cause = inr (inr refl); unwritten = λ other. absurd (other refl); told = told }
+  -- the refusal of the bytes that were read could not be written
+  module _ (bytes : List ℕ) (read : IsReadOf input bytes) (line : Option ℕ) (why : Reason) (refused : IsFaultOfFile bytes (fault.Refused line why))
+      (after : Option (List ℕ)) where
+    pub fails_refusing : AppendsBeginning before after (file_refusal_text line why) → AppendsBeginning told_before told_after (line_of WriteFailed)
+        → FailsUnread input before after told_before told_after WriteFailed
+    fails_refusing so_far told = record {
+      cause = inr (inr refl);
+      unwritten = λ other. absurd (other refl);
+      begun = λ is. begins_text (RefusesRules input) before after (file_refusal_text line why) so_far
+          (λ whole written. refused_of input before whole bytes read line why refused written);
+      told = told;
+    }
 
-  pub not_written : (after : Option (List ℕ)) → AppendsBeginning told_before told_after (line_of WriteFailed) → EndsUnread before after told_before told_after
-  not_written after told = (WriteFailed, fails_refusing after told)
+    pub not_written : AppendsBeginning before after (file_refusal_text line why) → AppendsBeginning told_before told_after (line_of WriteFailed)
+        → EndsUnread input before after told_before told_after
+    not_written so_far told = (WriteFailed, fails_refusing so_far told)

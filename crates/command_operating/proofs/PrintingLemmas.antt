@@ -1,23 +1,25 @@
--- Texts of which a beginning was printed, and how `rules` and `drain` fail.
+-- Texts of which a beginning was printed, why a command that asks a switch fails, and how `rules` and `drain` fail.
 use Rattle.std.proofs.Common.{◌≡◌, ◌≢◌, ◌∙◌, ◌⊎◌, ◌++◌, Err, List, None, Ok, Option, Result, Some, [], ap, append_assoc, codes, inl, inr, refl, subst, sym, ℕ}
-use Rattle.std.specs.Prelude.{IfErr, IfOk}
+use Rattle.std.specs.Prelude.{IfErr, IfOk, IsErrAnd}
 use Rattle.std.proofs.KnownBytes.{Appends-nil, Appends-trans}
 use Rattle.std.specs.Io.KnownBytes.{Appends, append_known}
 use Rattle.clap.specs.Words.{Text}
 use Rattle.command_line.specs.ControlAddress.{IsNoControlAddress, SpellsControlAddress}
 use Rattle.command_line.specs.Ending.{AppendsBeginning, line_of}
 use Rattle.command_line.specs.declared.control_address.ControlAddress.{ControlAddress}
+use Rattle.command_line.specs.declared.control_address.ControlAddress.TheVariants.{Udp}
 use Rattle.command_line.specs.declared.ending.Failure.{Failure}
-use Rattle.command_line.specs.declared.ending.Failure.TheVariants.{WriteFailed}
+use Rattle.command_line.specs.declared.ending.Failure.TheVariants.{BindFailed, NoAnswer, OutOfMemory, PollFailed, ReadFailed, RulesChanged, WriteFailed}
 use Rattle.command_line.specs.declared.ending.Status.{Status}
 use Rattle.command_line.specs.declared.ending.Status.TheVariants.{Done, Failed, Refused}
 use Rattle.control_client.specs.Wire.{peer_of}
 use Rattle.control_rules.specs.declared.draining.Drained.{Drained}
 use Rattle.ipv4_fields.specs.declared.endpoint.Endpoint.{Endpoint}
-use Rattle.command_operating.specs.Draining.{DrainsFrom, EndsDraining, NamesMember, NamesNoMember, drained_line, drained_status, no_member, not_drained}
-use Rattle.command_operating.specs.Printing.{Begins, EndsInPrintFailure, PrintFails, PrintsDrain, PrintsRules}
+use Rattle.command_operating.specs.Draining.{DrainsFrom, EndsDraining, MayFailDraining, NamesMember, NamesNoMember, PrintsDrain, drained_line, drained_status, no_member, not_drained}
+use Rattle.command_operating.specs.Printing.{Begins, EndsInPrintFailure, IsAskFault, PrintFails}
 use Rattle.command_operating.specs.Reported.{IsTold, told_alone}
-use Rattle.command_operating.specs.Showing.{IsRulesOf}
+use Rattle.command_operating.specs.Showing.{IsRulesOf, PrintsRules}
+use Rattle.command_operating.specs.body.Asked.{IsUnasked}
 use Rattle.command_operating.specs.body.Drained.{BeginsDrained}
 use Rattle.command_operating.proofs.ShowingLemmas.{good_never_failed}
 
@@ -84,33 +86,105 @@ begins_as Writes Writes' before after more so_far = record {
   writes = more so_far.whole so_far.writes;
 }
 
+-- ---- why a command failed
+
+pub memory_unasked : IsUnasked OutOfMemory
+memory_unasked = (λ is. cc, λ is. cc, λ is. cc)
+
+pub write_unasked : IsUnasked WriteFailed
+write_unasked = (λ is. cc, λ is. cc, λ is. cc)
+
+pub rules_unasked : IsUnasked RulesChanged
+rules_unasked = (λ is. cc, λ is. cc, λ is. cc)
+
+pub poll_unasked : IsUnasked PollFailed
+poll_unasked = (λ is. cc, λ is. cc, λ is. cc)
+
+pub answer_unasked : IsUnasked NoAnswer
+answer_unasked = (λ is. cc, λ is. cc, λ is. cc)
+
+pub unasked_fault : (address : ControlAddress) (failure : Failure) → IsUnasked failure → IsAskFault ⊥ address failure
+unasked_fault address failure unasked = record { no_thread = unasked.1; over_udp = λ is path. unasked.2 is; of_file = unasked.0 }
+
+pub udp_fault : (endpoint : Endpoint) → IsAskFault ⊥ (Udp endpoint) BindFailed
+udp_fault endpoint = record { no_thread = λ is. cc; over_udp = λ is path. path; of_file = λ is. cc }
+
+pub if_unasked : {A : Type 0} (address : ControlAddress) (result : Result A Failure) → IfErr result IsUnasked → IfErr result (IsAskFault ⊥ address)
+if_unasked address (Ok value) unasked = tt
+if_unasked address (Err failure) unasked = unasked_fault address failure unasked
+
+pub fault_as : (A B : Type 0) (address : ControlAddress) (failure : Failure) → (A → B) → IsAskFault A address failure → IsAskFault B address failure
+fault_as A B address failure more fault = record { no_thread = fault.no_thread; over_udp = fault.over_udp; of_file = λ is. more (fault.of_file is) }
+
+pub memory_fault : {A : Type 0} (address : ControlAddress) (failure : Failure) → failure ≡ OutOfMemory → IsAskFault A address failure
+memory_fault address failure is = record { no_thread = λ same. cc; over_udp = λ same path. cc; of_file = λ same. absurd (cc) }
+
+pub write_fault : {A : Type 0} (address : ControlAddress) (failure : Failure) → failure ≡ WriteFailed → IsAskFault A address failure
+write_fault address failure is = record { no_thread = λ same. cc; over_udp = λ same path. cc; of_file = λ same. absurd (cc) }
+
+pub unwritten_unasked : (failure : Failure) → failure ≡ WriteFailed → IsUnasked failure
+unwritten_unasked failure is = (λ same. cc, λ same. cc, λ same. cc)
+
+-- an error is passed on
+pub unasked_passed : {A : Type 0} (result : Result A Failure) (failure : Failure) → IsErrAnd result (λ given. given ≡ failure) → IsUnasked failure → IfErr result IsUnasked
+unasked_passed (Ok value) failure is unasked = tt
+unasked_passed (Err given) failure is unasked = subst IsUnasked (sym is) unasked
+
+pub fault_passed : {A : Type 0} (Reads : Type 0) (address : ControlAddress) (result : Result A Failure) (failure : Failure) → IsErrAnd result (λ given. given ≡ failure)
+    → IsAskFault Reads address failure → IfErr result (IsAskFault Reads address)
+fault_passed Reads address (Ok value) failure is fault = tt
+fault_passed Reads address (Err given) failure is fault = subst (IsAskFault Reads address) (sym is) fault
+
+-- it reads no file
+pub fault_unread : {A : Type 0} (address : ControlAddress) (result : Result A Failure) → IfErr result (IsAskFault ⊥ address) → IfErr result (λ failure. failure ≢ ReadFailed)
+fault_unread address (Ok value) fault = tt
+fault_unread address (Err failure) fault = fault.of_file
+
 -- ---- how a command failed
 
-module _ (Writes : Option (List ℕ) → Option (List ℕ) → Type 0) (control : Text) (before after told_before told_after : Option (List ℕ)) where
+module _ (Writes : Option (List ℕ) → Option (List ℕ) → Type 0) (MayFail : Failure → Type 0) (control : Option Text) (before after told_before told_after : Option (List ℕ)) where
   -- a write failed
-  pub print_unwritten : (failure : Failure) → failure ≡ WriteFailed → Begins Writes before after → IsTold (Some control) failure told_before told_after
-      → PrintFails Writes control before after told_before told_after failure
-  print_unwritten failure is so_far told = record { unwritten = λ other. absurd (other is); begun = λ again. so_far; told = told }
+  pub print_unwritten : (failure : Failure) → failure ≡ WriteFailed → Begins Writes before after → IsTold control failure told_before told_after
+      → PrintFails Writes MayFail control before after told_before told_after failure
+  print_unwritten failure is so_far told =
+      record { reason = λ other. absurd (other is); unwritten = λ other. absurd (other is); begun = λ again. so_far; told = told }
 
   -- the same of the refusal
   pub print_unrefused : (text : List ℕ) → AppendsBeginning before after text → ((whole : Option (List ℕ)) → Appends before whole text → Writes before whole)
-      → AppendsBeginning told_before told_after (line_of WriteFailed) → PrintFails Writes control before after told_before told_after WriteFailed
+      → AppendsBeginning told_before told_after (line_of WriteFailed) → PrintFails Writes MayFail control before after told_before told_after WriteFailed
   print_unrefused text so_far writes told = print_unwritten WriteFailed refl (begins_text Writes before after text so_far writes) (told_alone told)
 
   pub ends_unrefused : (text : List ℕ) → AppendsBeginning before after text → ((whole : Option (List ℕ)) → Appends before whole text → Writes before whole)
-      → AppendsBeginning told_before told_after (line_of WriteFailed) → EndsInPrintFailure Writes control before after told_before told_after
+      → AppendsBeginning told_before told_after (line_of WriteFailed) → EndsInPrintFailure Writes MayFail control before after told_before told_after
   ends_unrefused text so_far writes told = (WriteFailed, print_unrefused text so_far writes told)
 
-module _ {X : Type 0} (Writes : Option (List ℕ) → Option (List ℕ) → Type 0) (control : Text) (contents : X → Option (List ℕ)) (old new : X) (told_before told_after : Option (List ℕ)) where
-  pub print_fails : (ended : Result Status Failure) → IfErr ended (λ failure. failure ≢ WriteFailed → new ≡ old)
-      → IfErr ended (λ failure. failure ≡ WriteFailed → Begins Writes (contents old) (contents new)) → IfErr ended (λ failure. IsTold (Some control) failure told_before told_after)
-      → IfErr ended (PrintFails Writes control (contents old) (contents new) told_before told_after)
-  print_fails (Ok given) unwritten begun told = tt
-  print_fails (Err why) unwritten begun told = record { unwritten = λ other. ap contents (unwritten other); begun = begun; told = told }
+-- the same of more that is written, for more reasons
+pub print_as : (Writes Writes' : Option (List ℕ) → Option (List ℕ) → Type 0) (MayFail MayFail' : Failure → Type 0) (control : Option Text)
+    (before after told_before told_after : Option (List ℕ)) → ((whole : Option (List ℕ)) → Writes before whole → Writes' before whole)
+    → ((failure : Failure) → MayFail failure → MayFail' failure) → (failure : Failure) → PrintFails Writes MayFail control before after told_before told_after failure
+    → PrintFails Writes' MayFail' control before after told_before told_after failure
+print_as Writes Writes' MayFail MayFail' control before after told_before told_after more may failure fails = record {
+  reason = λ other. may failure (fails.reason other);
+  unwritten = fails.unwritten;
+  begun = λ is. begins_as Writes Writes' before after more (fails.begun is);
+  told = fails.told;
+}
+
+module _ {X : Type 0} (Writes : Option (List ℕ) → Option (List ℕ) → Type 0) (MayFail : Failure → Type 0) (control : Option Text) (contents : X → Option (List ℕ)) (old new : X)
+    (told_before told_after : Option (List ℕ)) where
+  pub print_fail : (failure : Failure) → MayFail failure → (failure ≢ WriteFailed → new ≡ old) → (failure ≡ WriteFailed → Begins Writes (contents old) (contents new))
+      → IsTold control failure told_before told_after → PrintFails Writes MayFail control (contents old) (contents new) told_before told_after failure
+  print_fail failure may unwritten begun told = record { reason = λ other. may; unwritten = λ other. ap contents (unwritten other); begun = begun; told = told }
+
+  pub print_fails : (ended : Result Status Failure) → IfErr ended MayFail → IfErr ended (λ failure. failure ≢ WriteFailed → new ≡ old)
+      → IfErr ended (λ failure. failure ≡ WriteFailed → Begins Writes (contents old) (contents new)) → IfErr ended (λ failure. IsTold control failure told_before told_after)
+      → IfErr ended (PrintFails Writes MayFail control (contents old) (contents new) told_before told_after)
+  print_fails (Ok given) may unwritten begun told = tt
+  print_fails (Err why) may unwritten begun told = print_fail why may unwritten begun told
 
   pub print_ended : (ended : Result Status Failure) (status : Status) → IfOk ended (λ given. status ≡ given)
-      → IfOk ended (λ given. (given ≡ Done) ⊎ (given ≡ Refused)) → IfErr ended (PrintFails Writes control (contents old) (contents new) told_before told_after)
-      → status ≡ Failed → EndsInPrintFailure Writes control (contents old) (contents new) told_before told_after
+      → IfOk ended (λ given. (given ≡ Done) ⊎ (given ≡ Refused)) → IfErr ended (PrintFails Writes MayFail control (contents old) (contents new) told_before told_after)
+      → status ≡ Failed → EndsInPrintFailure Writes MayFail control (contents old) (contents new) told_before told_after
   print_ended (Ok given) status is good fails failed = absurd (good_never_failed (Ok given) good (sym is ∙ failed))
   print_ended (Err why) status is good fails failed = (why, fails)
 
@@ -126,6 +200,12 @@ pub no_rules_address : (control : Text) (before whole : Option (List ℕ)) → I
 no_rules_address control before whole none written = inr (none, written)
 
 -- ---- `drain`
+
+-- why it failed
+pub may_fail_draining : (control key member : Text) (address : ControlAddress) (endpoint : Endpoint) (id : ℕ) → SpellsControlAddress control address
+    → NamesMember key member endpoint id → (ended : Result Status Failure) → IfErr ended (IsAskFault ⊥ address) → IfErr ended (MayFailDraining control key member)
+may_fail_draining control key member address endpoint id spells names (Ok given) fault = tt
+may_fail_draining control key member address endpoint id spells names (Err why) fault = ((endpoint, id, names), (address, spells, fault))
 
 pub no_drain_member : (control key member : Text) (before whole : Option (List ℕ)) → (IsNoControlAddress control) ⊎ NamesNoMember key member
     → Appends before whole (codes "refused C1\n") → PrintsDrain control key member before whole

@@ -8,7 +8,7 @@ use Rattle.command_line.specs.declared.control_address.ControlAddress.{ControlAd
 use Rattle.command_line.specs.declared.control_address.ControlAddress.TheVariants.{Udp, Unix}
 use Rattle.command_line.specs.declared.ending.Failure.{Failure}
 use Rattle.command_line.specs.declared.ending.Failure.TheVariants.{NoAnswer}
-use Rattle.command_operating.specs.body.Asked.{IsPath}
+use Rattle.command_operating.specs.Printing.{IsPath}
 use Rattle.command_operating.specs.Reported.{IsTold, told_after_trouble}
 use Rattle.control_client.specs.Trouble.{IsTroubleLine}
 use Rattle.control_client.specs.declared.trouble.Trouble.{Trouble}

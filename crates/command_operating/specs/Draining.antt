@@ -4,6 +4,7 @@ use Rattle.std.specs.Io.KnownBytes.{Appends}
 use Rattle.clap.specs.Words.{Text}
 use Rattle.command_line.specs.ControlAddress.{IsNoControlAddress, SpellsControlAddress}
 use Rattle.command_line.specs.declared.control_address.ControlAddress.{ControlAddress}
+use Rattle.command_line.specs.declared.ending.Failure.{Failure}
 use Rattle.command_line.specs.declared.ending.Status.{Status}
 use Rattle.command_line.specs.declared.ending.Status.TheVariants as status
 use Rattle.control_client.specs.Wire.{peer_of}
@@ -15,6 +16,7 @@ use Rattle.control_rules.specs.declared.draining.Drained.TheVariants.{Changed, P
 use Rattle.fault_code.specs.Code.{code_text}
 use Rattle.ipv4_fields.specs.Endpoint.{IsEndpoint, endpoint_text}
 use Rattle.ipv4_fields.specs.declared.endpoint.Endpoint.{Endpoint}
+use Rattle.command_operating.specs.Printing.{MayFailAsking}
 use Rattle.command_operating.specs.Showing.{version_line}
 
 -- the texts are the key of a group and the ID of a member
@@ -66,3 +68,11 @@ WritesDrain control key member before after = EndsDraining control key member be
 pub data RefusesDrain (control key member : Text) (before after : Option (List ℕ)) : Type 0 where
   no_member : (IsNoControlAddress control) ⊎ NamesNoMember key member → Appends before after (codes "refused C1\n") → RefusesDrain control key member before after
   not_drained : EndsDraining control key member before after status.Refused → RefusesDrain control key member before after
+
+-- what `drain` writes: that the member was drained, or a refusal
+abbrev pub PrintsDrain : Text → Text → Text → Option (List ℕ) → Option (List ℕ) → Type 0
+PrintsDrain control key member before after = WritesDrain control key member before after ⊎ RefusesDrain control key member before after
+
+-- why it may fail: the texts name a switch and a member, and it reads no file
+abbrev pub MayFailDraining : Text → Text → Text → Failure → Type 0
+MayFailDraining control key member failure = ((endpoint : Endpoint) × (id : ℕ) × NamesMember key member endpoint id) × MayFailAsking ⊥ control failure

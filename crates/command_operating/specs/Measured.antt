@@ -24,7 +24,7 @@ use Rattle.counter_text.specs.Screen.{screen_text}
 use Rattle.counter_text.specs.Sockets.{AreDropsAt}
 use Rattle.counter_text.specs.declared.counters.Counters.{Counters}
 use Rattle.counter_text.specs.declared.counters.FrontDrops.{FrontDrops}
-use Rattle.command_operating.specs.Printing.{Begins}
+use Rattle.command_operating.specs.Printing.{Begins, MayFailAsking}
 use Rattle.command_operating.specs.Reported.{IsTold}
 
 -- lines were exchanged with a switch, and this is so of them and of each switch of which all their replies are true
@@ -36,27 +36,40 @@ pub record WatchesOf (switch : Peer) (Holds : History → List Exchange → Type
 
 -- ---- `metrics`
 
--- the drops at the front that is given, by a table of sockets; none if no front is given
-abbrev pub AreFrontDrops : Option Text → Option FrontDrops → Type 0
-AreFrontDrops None None = Unit {0}
-AreFrontDrops None (Some it) = ⊥
-AreFrontDrops (Some front) None = ⊥
-AreFrontDrops (Some front) (Some it) = IsEndpoint it.front × (front ≡ endpoint_text it.front) × ((table : List ℕ) × AreDropsAt it.front table it.drops)
+-- the drops at a front, by a table of sockets
+abbrev pub AreDropsBy : Option (List ℕ) → FrontDrops → Type 0
+AreDropsBy known it = (table : List ℕ) × IsInput known table × AreDropsAt it.front table it.drops
 
--- the counters of the switch at the address were read, and written with the drops at the front
-pub record WritesMetrics (control : Text) (front : Option Text) (before after : Option (List ℕ)) : Type 0 where
+-- the drops at the front that is given; none if no front is given
+abbrev pub AreFrontDrops : Option (List ℕ) → Option Text → Option FrontDrops → Type 0
+AreFrontDrops known None None = Unit {0}
+AreFrontDrops known None (Some it) = ⊥
+AreFrontDrops known (Some front) None = ⊥
+AreFrontDrops known (Some front) (Some it) = IsEndpoint it.front × (front ≡ endpoint_text it.front) × AreDropsBy known it
+
+-- the counters of the switch at the address were read, and written with the drops at the front by a table of sockets
+pub record WritesMetrics (control : Text) (known : Option (List ℕ)) (front : Option Text) (before after : Option (List ℕ)) : Type 0 where
   pub address : ControlAddress
   pub is_address : SpellsControlAddress control address
   pub counters : Counters
   pub drops : Option FrontDrops
   pub are_counters : WatchesOf (peer_of address) (λ history told. AreCountersOf history told counters)
-  pub are_drops : AreFrontDrops front drops
+  pub are_drops : AreFrontDrops known front drops
   pub written : Appends before after (metrics_text counters drops)
 
 -- a front is given, and is no endpoint
 abbrev pub IsNoFront : Option Text → Type 0
 IsNoFront None = ⊥
 IsNoFront (Some front) = (endpoint : Endpoint) → IsEndpoint endpoint → front ≢ endpoint_text endpoint
+
+-- what `metrics` writes: the counters, or that it is given no address or no front
+abbrev pub PrintsMetrics : Text → Option (List ℕ) → Option Text → (before after : Option (List ℕ)) → Type 0
+PrintsMetrics control known front before after =
+    WritesMetrics control known front before after ⊎ ((IsNoControlAddress control ⊎ IsNoFront front) × Appends before after (codes "refused C1\n"))
+
+-- why it may fail: it is given an address and no bad front, and reads a file only for a front
+abbrev pub MayFailMeasuring : Text → Option Text → Failure → Type 0
+MayFailMeasuring control front failure = (IsNoFront front → ⊥) × MayFailAsking (front ≢ None) control failure
 
 -- the file that is the kernel's table of UDP sockets
 abbrev pub sockets_file : List ℕ
@@ -110,9 +123,10 @@ abbrev pub PrintsTop : Text → Bool → ℕ → Option (List ℕ) → Option (L
 PrintsTop control clears count before after =
     ((shown : ℕ) × (shown ≤ count) × WritesTop control clears shown before after) ⊎ (IsNoControlAddress control × Appends before after (codes "refused C1\n"))
 
--- it failed so; but for writes whole screens were written, and fewer than were wanted, or nothing; if a write failed, a beginning of what
--- it writes
+-- it failed so, and reads no file; but for writes whole screens were written, and fewer than were wanted, or nothing; if a write failed, a
+-- beginning of what it writes
 pub record TopFails (control : Text) (clears : Bool) (count : ℕ) (before after told_before told_after : Option (List ℕ)) (failure : Failure) : Type 0 where
+  pub reason : failure ≢ WriteFailed → MayFailAsking ⊥ control failure
   pub written : failure ≢ WriteFailed → (after ≡ before) ⊎ ((shown : ℕ) × (shown < count) × WritesTop control clears shown before after)
   pub begun : failure ≡ WriteFailed → Begins (PrintsTop control clears count) before after
   pub told : IsTold (Some control) failure told_before told_after

@@ -11,6 +11,8 @@ use Rattle.control_line.specs.Reason.{refusal_text}
 use Rattle.control_line.specs.Rules.{IsConfigOf, IsFaultOfFile}
 use Rattle.control_line.specs.declared.reason.Reason.{Reason}
 use Rattle.control_line.specs.declared.rules_file.RulesFault.TheVariants as fault
+use Rattle.command_operating.specs.Files.{KnownFiles}
+use Rattle.command_operating.specs.Printing.{Begins}
 
 -- the line that refuses a rules file, for one of its lines or as a whole
 abbrev pub of_line : Option ℕ → List ℕ
@@ -35,16 +37,32 @@ pub record RefusesRules (input before after : Option (List ℕ)) : Type 0 where
   pub refused : IsFaultOfFile text (fault.Refused line why)
   pub written : Appends before after (file_refusal_text line why)
 
--- there is no configuration, since a read, a write or memory failed; but for writes nothing was written
-pub record FailsUnread (before after told_before told_after : Option (List ℕ)) (failure : Failure) : Type 0 where
+-- the text of an input makes no configuration, since a read, a write or memory failed; if a write failed, a beginning of the line that
+-- refuses the text was written, and else nothing
+pub record FailsUnread (input before after told_before told_after : Option (List ℕ)) (failure : Failure) : Type 0 where
   pub cause : (failure ≡ ReadFailed) ⊎ ((failure ≡ OutOfMemory) ⊎ (failure ≡ WriteFailed))
   pub unwritten : failure ≢ WriteFailed → after ≡ before
+  pub begun : failure ≡ WriteFailed → Begins (RefusesRules input) before after
   pub told : AppendsBeginning told_before told_after (line_of failure)
 
-abbrev pub EndsUnread : (before after told_before told_after : Option (List ℕ)) → Type 0
-EndsUnread before after told_before told_after = (failure : Failure) × FailsUnread before after told_before told_after failure
+abbrev pub EndsUnread : (input before after told_before told_after : Option (List ℕ)) → Type 0
+EndsUnread input before after told_before told_after = (failure : Failure) × FailsUnread input before after told_before told_after failure
 
--- the configuration that a switch begins with: that of a rules file, or the one without groups
-abbrev pub IsOpening : Option Text → List Group → Type 0
-IsOpening None config = config ≡ []
-IsOpening (Some file) config = IsMadeFrom None config
+-- the configuration that a switch begins with: that of the rules file of this name, or the one without groups
+abbrev pub IsOpening : KnownFiles → Option Text → List Group → Type 0
+IsOpening files None config = config ≡ []
+IsOpening files (Some file) config = IsMadeFrom (files file) config
+
+-- the rules file of this name is refused, and the line that says so was written
+abbrev pub RefusesOpening : KnownFiles → Option Text → (before after : Option (List ℕ)) → Type 0
+RefusesOpening files None before after = ⊥
+RefusesOpening files (Some file) before after = RefusesRules (files file) before after
+
+-- the rules file of this name makes no configuration, for another reason
+abbrev pub FailsOpening : KnownFiles → Option Text → (before after told_before told_after : Option (List ℕ)) → Failure → Type 0
+FailsOpening files None before after told_before told_after failure = ⊥
+FailsOpening files (Some file) before after told_before told_after failure = FailsUnread (files file) before after told_before told_after failure
+
+abbrev pub EndsUnopened : KnownFiles → Option Text → (before after told_before told_after : Option (List ℕ)) → Type 0
+EndsUnopened files file before after told_before told_after =
+    (failure : Failure) × FailsOpening files file before after told_before told_after failure

@@ -1,15 +1,16 @@
 -- The output of the commands `rules` and `load`, by the rules of a switch (docs/COMMANDS.md, "rules", "load").
-use Rattle.std.specs.Prelude.{◌≡◌, ◌≢◌, ◌++◌, Bool, List, None, Option, Some, [], codes, decimal, false, length, true, ℕ}
+use Rattle.std.specs.Prelude.{◌≡◌, ◌⊎◌, ◌++◌, Bool, List, None, Option, Some, [], codes, decimal, false, length, true, ℕ}
 use Rattle.std.specs.Io.KnownBytes.{Appends}
 use Rattle.std.specs.List.{All}
 use Rattle.clap.specs.Words.{Text}
 use Rattle.command_explain.specs.Meaning.{file_line}
 use Rattle.command_explain.specs.Printed.{ShowsCode}
-use Rattle.command_line.specs.ControlAddress.{SpellsControlAddress}
+use Rattle.command_line.specs.ControlAddress.{IsNoControlAddress, SpellsControlAddress}
 use Rattle.command_line.specs.declared.control_address.ControlAddress.{ControlAddress}
 use Rattle.command_line.specs.Ending.{AppendsBeginning}
 use Rattle.command_line.specs.declared.ending.Failure.{Failure}
-use Rattle.command_line.specs.declared.ending.Failure.TheVariants.{WriteFailed}
+use Rattle.command_line.specs.declared.ending.Failure.TheVariants.{OutOfMemory, ReadFailed}
+use Rattle.command_line.specs.Input.{IsInput}
 use Rattle.command_line.specs.declared.ending.Status.{Status}
 use Rattle.command_line.specs.declared.ending.Status.TheVariants.{Done, Failed, Refused}
 use Rattle.config_image.specs.Image.{Group}
@@ -25,8 +26,8 @@ use Rattle.control_rules.specs.History.{AreConfigs, ClientValue, History, IsTrue
 use Rattle.control_rules.specs.Load.{IsDifference, Loads}
 use Rattle.control_rules.specs.Rules.{rules_file}
 use Rattle.member_group.specs.Charge.{charge_of, members_of}
-use Rattle.command_operating.specs.Reported.{IsTold}
-use Rattle.command_operating.specs.Opening.{RefusesRules}
+use Rattle.command_operating.specs.Opening.{IsMadeFrom, RefusesRules}
+use Rattle.command_operating.specs.Printing.{MayFailAsking}
 
 -- lines were exchanged with a switch, and this is so of each switch of which all their replies are true
 pub record LearnsOf (switch : Peer) (Holds : History → Type 0) : Type 0 where
@@ -47,13 +48,9 @@ pub record WritesRules (control : Text) (before after : Option (List ℕ)) : Typ
   pub is_rules : IsRulesOf (peer_of address) text
   pub written : Appends before after text
 
--- a command failed so; but for writes nothing was written
-pub record RulesFail (control : Option Text) (before after told_before told_after : Option (List ℕ)) (failure : Failure) : Type 0 where
-  pub unwritten : failure ≢ WriteFailed → after ≡ before
-  pub told : IsTold control failure told_before told_after
-
-abbrev pub EndsInRulesFailure : Option Text → (before after told_before told_after : Option (List ℕ)) → Type 0
-EndsInRulesFailure control before after told_before told_after = (failure : Failure) × RulesFail control before after told_before told_after failure
+-- what `rules` writes: the rules, or that it is given no address
+abbrev pub PrintsRules : Text → Option (List ℕ) → Option (List ℕ) → Type 0
+PrintsRules control before after = WritesRules control before after ⊎ (IsNoControlAddress control × Appends before after (codes "refused C1\n"))
 
 -- ---- `load`
 
@@ -106,20 +103,31 @@ pub data ShowsFileRefusal (name reply : List ℕ) (told_before told_after : Opti
       ShowsFileRefusal name reply told_before told_after
   unread : ((code : List ℕ) (place : Option ℕ) → ShowsCode reply code place → ⊥) → told_after ≡ told_before → ShowsFileRefusal name reply told_before told_after
 
--- the file's configuration, and what was written about it: its measures; the changes that lead to it; or the version that has it
-pub data WritesLoad (control : Option Text) (before after : Option (List ℕ)) : (only_check only_diff : Bool) → Type 0 where
-  checked : (only_diff : Bool) (text : List ℕ) (config : List Group) → IsConfigOf text config →
-      Appends before after (measures_line config ++ codes "\n") → WritesLoad control before after true only_diff
-  shown : (switch : Peer) → IsSwitch control switch → (text : List ℕ) (config : List Group) → IsConfigOf text config →
-      (changes : List ℕ) → AreChangesTo switch config changes → Appends before after changes → WritesLoad control before after false true
-  replaced : (switch : Peer) → IsSwitch control switch → (text : List ℕ) (config : List Group) → IsConfigOf text config →
+-- what was written about the configuration of a file: its measures; the changes that lead to it; or the version that has it
+pub data WritesLoad (control : Option Text) (input before after : Option (List ℕ)) : (only_check only_diff : Bool) → Type 0 where
+  checked : (only_diff : Bool) (config : List Group) → IsMadeFrom input config →
+      Appends before after (measures_line config ++ codes "\n") → WritesLoad control input before after true only_diff
+  shown : (switch : Peer) → IsSwitch control switch → (config : List Group) → IsMadeFrom input config →
+      (changes : List ℕ) → AreChangesTo switch config changes → Appends before after changes → WritesLoad control input before after false true
+  replaced : (switch : Peer) → IsSwitch control switch → (text : List ℕ) (config : List Group) → IsInput input text → IsConfigOf text config →
       (loaded : Loaded) → LoadsInto switch text config loaded → loaded_status loaded ≡ Done → Appends before after (loaded_line loaded ++ codes "\n") →
-      WritesLoad control before after false false
+      WritesLoad control input before after false false
 
 -- `load` is given no address of a switch, a file that is refused, or rules that the switch refuses, and the refusal was written
-pub data RefusesLoad (control : Option Text) (before after : Option (List ℕ)) : (only_check only_diff : Bool) → Type 0 where
-  no_switch : (only_diff : Bool) → IsNoSwitch control → Appends before after (codes "refused C1\n") → RefusesLoad control before after false only_diff
-  file_refused : (only_check only_diff : Bool) → RefusesRules None before after → RefusesLoad control before after only_check only_diff
-  change_refused : (switch : Peer) → IsSwitch control switch → (text : List ℕ) (config : List Group) → IsConfigOf text config →
+pub data RefusesLoad (control : Option Text) (input before after : Option (List ℕ)) : (only_check only_diff : Bool) → Type 0 where
+  no_switch : (only_diff : Bool) → IsNoSwitch control → Appends before after (codes "refused C1\n") → RefusesLoad control input before after false only_diff
+  file_refused : (only_check only_diff : Bool) → RefusesRules input before after → RefusesLoad control input before after only_check only_diff
+  change_refused : (switch : Peer) → IsSwitch control switch → (text : List ℕ) (config : List Group) → IsInput input text → IsConfigOf text config →
       (loaded : Loaded) → LoadsInto switch text config loaded → loaded_status loaded ≡ Refused → Appends before after (loaded_line loaded ++ codes "\n") →
-      RefusesLoad control before after false false
+      RefusesLoad control input before after false false
+
+-- what `load` writes of the file with these bytes
+abbrev pub PrintsLoad : Option Text → Option (List ℕ) → (only_check only_diff : Bool) → (before after : Option (List ℕ)) → Type 0
+PrintsLoad control input only_check only_diff before after =
+    WritesLoad control input before after only_check only_diff ⊎ RefusesLoad control input before after only_check only_diff
+
+-- why it may fail: with `--check` it reads a file, and asks no switch; else it has the address of a switch, and asks it, too
+abbrev pub MayFailLoading : Option Text → (only_check : Bool) → Failure → Type 0
+MayFailLoading control true failure = (failure ≡ ReadFailed) ⊎ (failure ≡ OutOfMemory)
+MayFailLoading None false failure = ⊥
+MayFailLoading (Some control) false failure = MayFailAsking (Unit {0}) control failure

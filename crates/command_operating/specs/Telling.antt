@@ -1,5 +1,5 @@
 -- The output of the command `tell` (docs/COMMANDS.md, "tell").
-use Rattle.std.specs.Prelude.{◌≡◌, ◌&&◌, ◌==◌, ◌++◌, ◌∷◌, Bool, List, None, Option, Some, [], codes, false, flat_map, if◌then◌else◌, not, true, ℕ}
+use Rattle.std.specs.Prelude.{◌≡◌, ◌≢◌, ◌&&◌, ◌==◌, ◌++◌, ◌∷◌, Bool, List, None, Option, Some, [], codes, false, flat_map, if◌then◌else◌, not, true, ℕ}
 use Rattle.std.specs.List.{list_any}
 use Rattle.std.specs.Str.{bytes_eq}
 use Rattle.std.specs.Io.KnownBytes.{Appends}
@@ -63,11 +63,11 @@ pub record WritesReplies (control : Text) (all : Bool) (words : List Text) (inpu
   pub is_address : SpellsControlAddress control address
   pub tells_all : Tells all (peer_of address) (lines_told words input) before after told_before told_after refused
 
--- `tell` failed so: the refusal of an address could not be written, or it stopped after some requests
+-- `tell` failed so: the refusal of an address could not be written, or it stopped after some requests; if it has words it reads no input
 pub data TellFails (control : Text) (all : Bool) (words : List Text) (input before after told_before told_after : Option (List ℕ)) : Failure → Type 0 where
   unwritten_refusal : IsNoControlAddress control →
       AppendsBeginning told_before told_after (line_of failure.WriteFailed) → TellFails control all words input before after told_before told_after failure.WriteFailed
-  stopped : (address : ControlAddress) (why : Failure) (told_then : Option (List ℕ)) → SpellsControlAddress control address →
+  stopped : (address : ControlAddress) (why : Failure) (told_then : Option (List ℕ)) → SpellsControlAddress control address → (words ≢ [] → why ≢ failure.ReadFailed) →
       StopsTelling all why (peer_of address) (lines_told words input) before after told_before told_then → IsTold (Some control) why told_then told_after →
       TellFails control all words input before after told_before told_after why
 

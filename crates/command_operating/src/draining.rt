@@ -1,6 +1,6 @@
 //! The command `drain`: a member out of a group of a running switch (docs/COMMANDS.md, "drain").
 
-ghost use Rattle.std.specs.Prelude.{◌≡◌, ◌≢◌, ◌⊎◌, ◌++◌, IfErr, IfOk, MatchOption, OnErr, OnOk, codes, string_bytes};
+ghost use Rattle.std.specs.Prelude.{◌≡◌, ◌≢◌, ◌⊎◌, ◌++◌, IfErr, IfOk, MatchOption, OnErr, OnOk, Some, codes, string_bytes};
 ghost use Rattle.std.specs.Io.KnownBytes.{Appends};
 ghost use Rattle.fault_code.specs.Code.{code_text};
 ghost use Rattle.control_client.specs.Wire.{peer_of};
@@ -8,13 +8,14 @@ ghost use Rattle.control_rules.specs.Drain.{drain_code};
 ghost use Rattle.control_rules.specs.declared.draining.Drained.{Drained as DrainedValue};
 ghost use Rattle.command_streams.specs.Endings.{EndsByCause};
 ghost use Rattle.command_streams.specs.Failures.{OutputFails};
-ghost use Rattle.command_operating.specs.Draining.{DrainsFrom, NamesMember, NamesNoMember, RefusesDrain, WritesDrain, drained_line, drained_status};
-ghost use Rattle.command_operating.specs.Printing.{EndsInPrintFailure, PrintFails, PrintsDrain};
+ghost use Rattle.command_operating.specs.Draining.{DrainsFrom, MayFailDraining, NamesMember, NamesNoMember, PrintsDrain, RefusesDrain, WritesDrain, drained_line, drained_status};
+ghost use Rattle.command_operating.specs.Printing.{EndsInPrintFailure, IsAskFault, PrintFails};
+ghost use Rattle.command_operating.specs.body.Asked.{IsUnasked};
 ghost use Rattle.command_operating.specs.body.Drained.{BeginsDrained};
 
 use crate::loading::version_line;
 use crate::printing::print_line;
-use crate::reaching::client_of;
+use crate::reaching::{ask_failure, client_of};
 use crate::refuse_address;
 use crate::reporting::reported;
 use command_line::{ControlAddress, Failure, Status};
@@ -65,6 +66,7 @@ fn print_drained<W: CountedWrite>(
     ensures printed { OnOk result (Appends (W.contents out.old) (W.contents out.new) (drained_line drained.now ++ codes "\n")) }
     ensures unwritten { IfErr result (λ failure. failure ≢ Failure.WriteFailed → out.new ≡ out.old) }
     ensures begun { IfErr result (λ failure. failure ≡ Failure.WriteFailed → BeginsDrained drained.now (W.contents out.old) (W.contents out.new)) }
+    ensures fault { IfErr result IsUnasked }
     ensures device_failed { OutputFails result (W.failures out.old) (W.failures out.new) }
 {
     match drained {
@@ -113,9 +115,13 @@ fn drain_printed<R: Net + Clock, W: CountedWrite>(
     ensures unwritten { IfErr result (λ failure. failure ≢ Failure.WriteFailed → out.new ≡ out.old) }
     ensures begun { IfErr result (λ failure. failure ≡ Failure.WriteFailed → (drained : DrainedValue)
         × DrainsFrom (peer_of reach.entry.address) member.0 member.1 drained × BeginsDrained drained (W.contents out.old) (W.contents out.new)) }
+    ensures fault { IfErr result (IsAskFault ⊥ reach.entry.address) }
     ensures device_failed { OutputFails result (W.failures out.old) (W.failures out.new) }
 {
-    let drained = drained_from(rt, alloc, reach, member)?;
+    let drained = match drained_from(rt, alloc, reach, member) {
+        Ok(drained) => drained,
+        Err(failure) => return Err(ask_failure(failure, reach.address)),
+    };
     print_drained(alloc, &drained, out)
 }
 
@@ -134,10 +140,12 @@ pub fn run_drain<R: Net + Clock, W: CountedWrite, E: Write>(
     ensures no_errors { (result ≡ Status.Done) ⊎ (result ≡ Status.Refused) → errs.new ≡ errs.old }
     ensures never_misused { result ≡ Status.Misused → ⊥ }
     ensures failed { result ≡ Status.Failed
-        → EndsInPrintFailure (PrintsDrain draining.entry.control.now draining.entry.key.now draining.entry.member.now) draining.entry.control.now
+        → EndsInPrintFailure (PrintsDrain draining.entry.control.now draining.entry.key.now draining.entry.member.now)
+        (MayFailDraining draining.entry.control.now draining.entry.key.now draining.entry.member.now) (Some draining.entry.control.now)
         (W.contents out.old) (W.contents out.new) (E.contents errs.old) (E.contents errs.new) }
     ensures device_failed { EndsByCause
-        (PrintFails (PrintsDrain draining.entry.control.now draining.entry.key.now draining.entry.member.now) draining.entry.control.now
+        (PrintFails (PrintsDrain draining.entry.control.now draining.entry.key.now draining.entry.member.now)
+        (MayFailDraining draining.entry.control.now draining.entry.key.now draining.entry.member.now) (Some draining.entry.control.now)
         (W.contents out.old) (W.contents out.new) (E.contents errs.old) (E.contents errs.new)) result (W.failures out.old) (W.failures out.new) }
 {
     let Draining {

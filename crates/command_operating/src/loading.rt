@@ -1,8 +1,7 @@
 //! The command `load`: the rules of a file for a running switch (docs/COMMANDS.md, "load").
 
-ghost use Rattle.std.specs.Prelude.{◌≡◌, ◌≢◌, ◌≤◌, ◌⊎◌, ◌++◌, IfErr, IfOk, List, MatchOption, None, OnErr, OnOk, Some, codes, length, option_map, ℕ};
+ghost use Rattle.std.specs.Prelude.{◌≡◌, ◌≢◌, ◌≤◌, ◌⊎◌, ◌++◌, IfErr, IfOk, MatchOption, None, OnErr, OnOk, Some, codes, length, option_map, true, ℕ};
 ghost use Rattle.std.specs.Io.KnownBytes.{Appends};
-ghost use Rattle.config_image.specs.Image.{Group};
 ghost use Rattle.control_client.specs.Wire.{peer_of};
 ghost use Rattle.control_line.specs.Rules.{IsConfigOf};
 ghost use Rattle.command_explain.specs.Meaning.{file_line};
@@ -11,13 +10,14 @@ ghost use Rattle.command_line.specs.Ending.{AppendsBeginning};
 ghost use Rattle.command_line.specs.declared.ending.Failure.TheVariants as failure;
 ghost use Rattle.command_streams.specs.Endings.{EndsByOneCause};
 ghost use Rattle.command_streams.specs.Failures.{OutputFails};
-ghost use Rattle.command_operating.specs.Opening.{RefusesRules};
-ghost use Rattle.command_operating.specs.Showing.{AreChangesTo, EndsInRulesFailure, IsNoSwitch, LoadsInto, RefusesLoad, RulesFail, ShowsFileRefusal, WritesLoad, loaded_line, loaded_status, measures_line, version_line};
-ghost use Rattle.command_operating.specs.body.Asked.{IsAsked};
+ghost use Rattle.command_operating.specs.Printing.{Begins, EndsInPrintFailure, IsAskFault, PrintFails};
+ghost use Rattle.command_operating.specs.Showing.{IsNoSwitch, LoadsInto, MayFailLoading, PrintsLoad, RefusesLoad, ShowsFileRefusal, WritesLoad, loaded_line, loaded_status, measures_line, version_line};
+ghost use Rattle.command_operating.specs.body.Asked.{IsAsked, IsUnasked};
+ghost use Rattle.command_operating.specs.body.Changes.{BeginsLoaded, BeginsReplaced, PrintsChanges, PrintsLoaded, ReplacesAs};
 
 use crate::files::ReadFiles;
 use crate::printing::print_line;
-use crate::reaching::{ask_failure, client_of};
+use crate::reaching::{ask_failure, client_of, unasked};
 use crate::refuse_address;
 use crate::refused::write_flushed;
 use crate::reporting::reported;
@@ -87,15 +87,16 @@ fn print_differences<D: Wire + Drop, W: CountedWrite>(
     out: &mut W,
 ) -> Result<Status, Failure>
     ensures done { IfOk result (λ status. status ≡ Status.Done) }
-    ensures shown { OnOk result ((changes : List ℕ) × AreChangesTo client.old.switch config.now changes
-        × Appends (W.contents out.old) (W.contents out.new) changes) }
+    ensures shown { OnOk result (PrintsChanges client.old.switch config.now (W.contents out.old) (W.contents out.new)) }
     ensures unwritten { IfErr result (λ failure. failure ≢ Failure.WriteFailed → out.new ≡ out.old) }
+    ensures begun { IfErr result (λ failure. failure ≡ Failure.WriteFailed
+        → Begins (PrintsChanges client.old.switch config.now) (W.contents out.old) (W.contents out.new)) }
+    ensures fault { IfErr result IsUnasked }
     ensures device_failed { OutputFails result (W.failures out.old) (W.failures out.new) }
-    ensures never_unread { IfErr result (λ failure. failure ≢ Failure.ReadFailed) }
 {
     let changes = match differences(client, config) {
         Ok(changes) => changes,
-        Err(failure) => return Err(ask_failure(failure)),
+        Err(failure) => return Err(unasked(failure)),
     };
     let Some(changes) = changes else {
         return Err(Failure::RulesChanged);
@@ -113,15 +114,16 @@ fn print_changes<R: Net + Clock, W: CountedWrite>(
     out: &mut W,
 ) -> Result<Status, Failure>
     ensures done { IfOk result (λ status. status ≡ Status.Done) }
-    ensures shown { OnOk result ((changes : List ℕ) × AreChangesTo (peer_of reach.entry.address) config.now changes
-        × Appends (W.contents out.old) (W.contents out.new) changes) }
+    ensures shown { OnOk result (PrintsChanges (peer_of reach.entry.address) config.now (W.contents out.old) (W.contents out.new)) }
     ensures unwritten { IfErr result (λ failure. failure ≢ Failure.WriteFailed → out.new ≡ out.old) }
+    ensures begun { IfErr result (λ failure. failure ≡ Failure.WriteFailed
+        → Begins (PrintsChanges (peer_of reach.entry.address) config.now) (W.contents out.old) (W.contents out.new)) }
+    ensures fault { IfErr result (IsAskFault ⊥ reach.entry.address) }
     ensures device_failed { OutputFails result (W.failures out.old) (W.failures out.new) }
-    ensures never_unread { IfErr result (λ failure. failure ≢ Failure.ReadFailed) }
 {
     let mut client = match client_of(rt, alloc, reach) {
         Ok(client) => client,
-        Err(failure) => return Err(ask_failure(failure)),
+        Err(failure) => return Err(ask_failure(failure, reach.address)),
     };
     print_differences(&mut client, config, out)
 }
@@ -135,15 +137,15 @@ fn show_changes<R: Net + Clock, W: CountedWrite, E: Write>(
     errs: &mut E,
 ) -> Status
     requires { SpellsControlAddress asked.0.now asked.1.address }
-    ensures done { result ≡ Status.Done → (changes : List ℕ) × AreChangesTo (peer_of asked.entry.1.address) config.now changes
-        × Appends (W.contents out.old) (W.contents out.new) changes }
+    ensures done { result ≡ Status.Done → PrintsChanges (peer_of asked.entry.1.address) config.now (W.contents out.old) (W.contents out.new) }
     ensures done_or_failed { (result ≡ Status.Done) ⊎ (result ≡ Status.Failed) }
     ensures no_errors { result ≡ Status.Done → errs.new ≡ errs.old }
     ensures failed { result ≡ Status.Failed
-        → EndsInRulesFailure (Some asked.entry.0.now) (W.contents out.old) (W.contents out.new) (E.contents errs.old) (E.contents errs.new) }
+        → EndsInPrintFailure (PrintsChanges (peer_of asked.entry.1.address) config.now) (IsAskFault ⊥ asked.entry.1.address) (Some asked.entry.0.now)
+        (W.contents out.old) (W.contents out.new) (E.contents errs.old) (E.contents errs.new) }
     ensures device_failed { (read : ℕ) → EndsByOneCause
-        (RulesFail (Some asked.entry.0.now) (W.contents out.old) (W.contents out.new) (E.contents errs.old) (E.contents errs.new)) result
-        read read (W.failures out.old) (W.failures out.new) }
+        (PrintFails (PrintsChanges (peer_of asked.entry.1.address) config.now) (IsAskFault ⊥ asked.entry.1.address) (Some asked.entry.0.now)
+        (W.contents out.old) (W.contents out.new) (E.contents errs.old) (E.contents errs.new)) result read read (W.failures out.old) (W.failures out.new) }
 {
     let (control, reach) = asked;
     let ended = print_changes(rt, alloc, reach, config, out);
@@ -156,8 +158,9 @@ fn print_loaded<W: CountedWrite>(loaded: &Loaded, out: &mut W) -> Result<Status,
     ensures done_or_refused { IfOk result (λ status. (status ≡ Status.Done) ⊎ (status ≡ Status.Refused)) }
     ensures printed { OnOk result (Appends (W.contents out.old) (W.contents out.new) (loaded_line loaded.now ++ codes "\n")) }
     ensures unwritten { IfErr result (λ failure. failure ≢ Failure.WriteFailed → out.new ≡ out.old) }
+    ensures begun { IfErr result (λ failure. failure ≡ Failure.WriteFailed → BeginsLoaded loaded.now (W.contents out.old) (W.contents out.new)) }
+    ensures fault { IfErr result IsUnasked }
     ensures device_failed { OutputFails result (W.failures out.old) (W.failures out.new) }
-    ensures never_unread { IfErr result (λ failure. failure ≢ Failure.ReadFailed) }
 {
     match loaded {
         Loaded::Unchanged { version } => {
@@ -226,20 +229,21 @@ fn print_replaced<R: Net + Clock, W: CountedWrite, E: Write>(
     errs: &mut E,
 ) -> Result<Status, Failure>
     requires { IsConfigOf named.1.now.text.items named.1.now.config }
-    ensures printed { IfOk result (λ status. (loaded : Loaded) × (status ≡ loaded_status loaded)
-        × LoadsInto (peer_of reach.entry.address) named.entry.1.now.text.items named.entry.1.now.config loaded
-        × Appends (W.contents out.old) (W.contents out.new) (loaded_line loaded ++ codes "\n")) }
+    ensures printed { IfOk result (ReplacesAs (peer_of reach.entry.address) named.entry.1.now.text.items named.entry.1.now.config
+        (W.contents out.old) (W.contents out.new)) }
     ensures done_or_refused { IfOk result (λ status. (status ≡ Status.Done) ⊎ (status ≡ Status.Refused)) }
     ensures no_errors { IfOk result (λ status. status ≡ Status.Done → errs.new ≡ errs.old) }
     ensures unshown { OnErr result (errs.new ≡ errs.old) }
     ensures unwritten { IfErr result (λ failure. failure ≢ Failure.WriteFailed → out.new ≡ out.old) }
+    ensures begun { IfErr result (λ failure. failure ≡ Failure.WriteFailed
+        → BeginsReplaced (peer_of reach.entry.address) named.entry.1.now.text.items named.entry.1.now.config (W.contents out.old) (W.contents out.new)) }
+    ensures fault { IfErr result (IsAskFault ⊥ reach.entry.address) }
     ensures device_failed { OutputFails result (W.failures out.old) (W.failures out.new) }
-    ensures never_unread { IfErr result (λ failure. failure ≢ Failure.ReadFailed) }
 {
     let (name, file) = named;
     let loaded = match replaced(rt, alloc, reach, file) {
         Ok(loaded) => loaded,
-        Err(failure) => return Err(ask_failure(failure)),
+        Err(failure) => return Err(ask_failure(failure, reach.address)),
     };
     let status = print_loaded(&loaded, out)?;
     match loaded {
@@ -261,16 +265,16 @@ fn replace<R: Net + Clock, W: CountedWrite, E: Write>(
 ) -> Status
     requires config { IsConfigOf named.1.now.text.items named.1.now.config }
     requires address { SpellsControlAddress asked.0.now asked.1.address }
-    ensures printed { (result ≡ Status.Failed → ⊥) → (loaded : Loaded) × (result ≡ loaded_status loaded)
-        × LoadsInto (peer_of asked.entry.1.address) named.entry.1.now.text.items named.entry.1.now.config loaded
-        × Appends (W.contents out.old) (W.contents out.new) (loaded_line loaded ++ codes "\n") }
+    ensures printed { (result ≡ Status.Failed → ⊥) → ReplacesAs (peer_of asked.entry.1.address) named.entry.1.now.text.items named.entry.1.now.config
+        (W.contents out.old) (W.contents out.new) result }
     ensures no_errors { result ≡ Status.Done → errs.new ≡ errs.old }
     ensures never_misused { result ≡ Status.Misused → ⊥ }
     ensures failed { result ≡ Status.Failed
-        → EndsInRulesFailure (Some asked.entry.0.now) (W.contents out.old) (W.contents out.new) (E.contents errs.old) (E.contents errs.new) }
+        → EndsInPrintFailure (PrintsLoaded (peer_of asked.entry.1.address) named.entry.1.now.text.items named.entry.1.now.config) (IsAskFault ⊥ asked.entry.1.address) (Some asked.entry.0.now)
+        (W.contents out.old) (W.contents out.new) (E.contents errs.old) (E.contents errs.new) }
     ensures device_failed { (read : ℕ) → EndsByOneCause
-        (RulesFail (Some asked.entry.0.now) (W.contents out.old) (W.contents out.new) (E.contents errs.old) (E.contents errs.new)) result
-        read read (W.failures out.old) (W.failures out.new) }
+        (PrintFails (PrintsLoaded (peer_of asked.entry.1.address) named.entry.1.now.text.items named.entry.1.now.config) (IsAskFault ⊥ asked.entry.1.address) (Some asked.entry.0.now)
+        (W.contents out.old) (W.contents out.new) (E.contents errs.old) (E.contents errs.new)) result read read (W.failures out.old) (W.failures out.new) }
 {
     let (control, reach) = asked;
     let ended = print_replaced(rt, alloc, reach, named, out, errs);
@@ -278,26 +282,30 @@ fn replace<R: Net + Clock, W: CountedWrite, E: Write>(
 }
 
 // Prints the measures of a file, and asks no switch.
-#[tactic(auto, using(crate::proofs::OpeningLemmas::refuses_unknown, crate::proofs::CauseLemmas::writes_once, crate::proofs::ShowingLemmas::fail_writing))]
 fn check_file<F: ReadFiles, W: CountedWrite, E: Write>(
     alloc: Global,
-    name: &str,
+    loading: Loading<'_>,
     files: &mut F,
     out: &mut W,
     errs: &mut E,
 ) -> Status
-    ensures done { result ≡ Status.Done → (text : List ℕ) × (config : List Group) × IsConfigOf text config
-        × Appends (W.contents out.old) (W.contents out.new) (measures_line config ++ codes "\n") }
-    ensures refused { result ≡ Status.Refused → RefusesRules None (W.contents out.old) (W.contents out.new) }
+    ensures done { result ≡ Status.Done → WritesLoad (option_map (λ address. address.now) loading.entry.control) (F.contents files.old loading.entry.file.now)
+        (W.contents out.old) (W.contents out.new) true loading.entry.diff }
+    ensures refused { result ≡ Status.Refused → RefusesLoad (option_map (λ address. address.now) loading.entry.control) (F.contents files.old loading.entry.file.now)
+        (W.contents out.old) (W.contents out.new) true loading.entry.diff }
     ensures no_errors { result ≡ Status.Done → errs.new ≡ errs.old }
     ensures never_misused { result ≡ Status.Misused → ⊥ }
-    ensures failed { result ≡ Status.Failed
-        → EndsInRulesFailure None (W.contents out.old) (W.contents out.new) (E.contents errs.old) (E.contents errs.new) }
-    ensures device_failed { EndsByOneCause
-        (RulesFail None (W.contents out.old) (W.contents out.new) (E.contents errs.old) (E.contents errs.new)) result
+    ensures failed { result ≡ Status.Failed → EndsInPrintFailure
+        (PrintsLoad (option_map (λ address. address.now) loading.entry.control) (F.contents files.old loading.entry.file.now) true loading.entry.diff)
+        (MayFailLoading (option_map (λ address. address.now) loading.entry.control) true) (option_map (λ address. address.now) loading.entry.control)
+        (W.contents out.old) (W.contents out.new) (E.contents errs.old) (E.contents errs.new) }
+    ensures device_failed { EndsByOneCause (PrintFails
+        (PrintsLoad (option_map (λ address. address.now) loading.entry.control) (F.contents files.old loading.entry.file.now) true loading.entry.diff)
+        (MayFailLoading (option_map (λ address. address.now) loading.entry.control) true) (option_map (λ address. address.now) loading.entry.control)
+        (W.contents out.old) (W.contents out.new) (E.contents errs.old) (E.contents errs.new)) result
         (F.failures files.old) (F.failures files.new) (W.failures out.old) (W.failures out.new) }
 {
-    let file = match open_file(alloc, name, files, out, errs) {
+    let file = match open_file(alloc, loading.file, files, out, errs) {
         Ok(file) => file,
         Err(status) => return status,
     };
@@ -316,20 +324,24 @@ pub fn run_load<R: Net + Clock, F: ReadFiles, W: CountedWrite, E: Write>(
     out: &mut W,
     errs: &mut E,
 ) -> Status
-    ensures done { result ≡ Status.Done → WritesLoad (option_map (λ address. address.now) loading.entry.control)
+    ensures done { result ≡ Status.Done → WritesLoad (option_map (λ address. address.now) loading.entry.control) (F.contents files.old loading.entry.file.now)
         (W.contents out.old) (W.contents out.new) loading.entry.check loading.entry.diff }
-    ensures refused { result ≡ Status.Refused → RefusesLoad (option_map (λ address. address.now) loading.entry.control)
+    ensures refused { result ≡ Status.Refused → RefusesLoad (option_map (λ address. address.now) loading.entry.control) (F.contents files.old loading.entry.file.now)
         (W.contents out.old) (W.contents out.new) loading.entry.check loading.entry.diff }
     ensures no_errors { result ≡ Status.Done → errs.new ≡ errs.old }
     ensures never_misused { result ≡ Status.Misused → ⊥ }
-    ensures failed { result ≡ Status.Failed
-        → EndsInRulesFailure (option_map (λ address. address.now) loading.entry.control) (W.contents out.old) (W.contents out.new) (E.contents errs.old) (E.contents errs.new) }
-    ensures device_failed { EndsByOneCause (RulesFail (option_map (λ address. address.now) loading.entry.control)
+    ensures failed { result ≡ Status.Failed → EndsInPrintFailure
+        (PrintsLoad (option_map (λ address. address.now) loading.entry.control) (F.contents files.old loading.entry.file.now) loading.entry.check loading.entry.diff)
+        (MayFailLoading (option_map (λ address. address.now) loading.entry.control) loading.entry.check) (option_map (λ address. address.now) loading.entry.control)
+        (W.contents out.old) (W.contents out.new) (E.contents errs.old) (E.contents errs.new) }
+    ensures device_failed { EndsByOneCause (PrintFails
+        (PrintsLoad (option_map (λ address. address.now) loading.entry.control) (F.contents files.old loading.entry.file.now) loading.entry.check loading.entry.diff)
+        (MayFailLoading (option_map (λ address. address.now) loading.entry.control) loading.entry.check) (option_map (λ address. address.now) loading.entry.control)
         (W.contents out.old) (W.contents out.new) (E.contents errs.old) (E.contents errs.new)) result
         (F.failures files.old) (F.failures files.new) (W.failures out.old) (W.failures out.new) }
 {
     if loading.check {
-        return check_file(alloc, loading.file, files, out, errs);
+        return check_file(alloc, loading, files, out, errs);
     }
     let Some((control, address)) = switch_of(loading.control) else {
         return refuse_address(out, errs);

@@ -1,15 +1,14 @@
 //! The command `metrics`: the counters of a running switch, for Prometheus (docs/COMMANDS.md, "metrics").
 
-ghost use Rattle.std.specs.Prelude.{◌≡◌, ◌≢◌, ◌⊎◌, IfErr, IfOk, MatchResult, OnOk, Some, codes, option_map};
+ghost use Rattle.std.specs.Prelude.{◌≡◌, ◌≢◌, ◌⊎◌, IfErr, IfOk, MatchResult, None, OnErr, OnOk, Some, codes, option_map};
 ghost use Rattle.std.specs.Io.KnownBytes.{Appends};
 ghost use Rattle.command_line.specs.ControlAddress.{IsNoControlAddress};
 ghost use Rattle.control_client.specs.Wire.{peer_of};
 ghost use Rattle.control_counters.specs.Reading.{AreCountersOf};
-ghost use Rattle.counter_text.specs.Sockets.{AreDropsAt};
 ghost use Rattle.command_streams.specs.Failures.{OutputFails};
-ghost use Rattle.command_operating.specs.Measured.{AreFrontDrops, EndsByCauseOrTable, IsNoFront, WatchesOf, WritesMetrics, sockets_file};
-ghost use Rattle.command_operating.specs.Showing.{EndsInRulesFailure, RulesFail};
-ghost use Rattle.command_operating.specs.body.Front.{FailsByTable, IsFrontOf, IsGivenFront, PrintsMetrics};
+ghost use Rattle.command_operating.specs.Measured.{AreDropsBy, EndsByCauseOrTable, IsNoFront, MayFailMeasuring, PrintsMetrics, WatchesOf, WritesMetrics, sockets_file};
+ghost use Rattle.command_operating.specs.Printing.{Begins, EndsInPrintFailure, IsAskFault, PrintFails};
+ghost use Rattle.command_operating.specs.body.Front.{FailsByTable, IsFrontOf, IsGivenFront, WritesCounters};
 
 use crate::files::ReadFiles;
 use crate::reaching::{ask_failure, client_of};
@@ -63,7 +62,8 @@ fn drops_of<F: ReadFiles>(
     front: Endpoint,
 ) -> Result<FrontDrops, Failure>
     ensures front { IfOk result (λ it. it.front ≡ front) }
-    ensures drops { IfOk result (λ it. (table : _) × AreDropsAt it.front table it.drops) }
+    ensures drops { IfOk result (AreDropsBy (F.contents files.old sockets_file)) }
+    ensures cause { IfErr result (λ failure. (failure ≡ Failure.ReadFailed) ⊎ (failure ≡ Failure.OutOfMemory)) }
     ensures no_output { IfErr result (λ failure. failure ≢ Failure.WriteFailed) }
     ensures input_failed { FailsByTable result (F.contents files.old sockets_file) (Some front) (F.failures files.old) (F.failures files.new) }
 {
@@ -81,7 +81,9 @@ fn front_drops<F: ReadFiles>(
     alloc: Global,
     front: Option<Endpoint>,
 ) -> Result<Option<FrontDrops>, Failure>
-    ensures drops { IfOk result (IsFrontOf front) }
+    ensures drops { IfOk result (IsFrontOf (F.contents files.old sockets_file) front) }
+    ensures cause { IfErr result (λ failure. (failure ≡ Failure.ReadFailed) ⊎ (failure ≡ Failure.OutOfMemory)) }
+    ensures given { OnErr result (front ≢ None) }
     ensures no_output { IfErr result (λ failure. failure ≢ Failure.WriteFailed) }
     ensures input_failed { FailsByTable result (F.contents files.old sockets_file) front (F.failures files.old) (F.failures files.new) }
 {
@@ -114,14 +116,18 @@ fn print_metrics<R: Net + Clock, F: ReadFiles, W: CountedWrite>(
     files: &mut F,
     out: &mut W,
 ) -> Result<(), Failure>
-    ensures printed { OnOk result (PrintsMetrics (peer_of reach.entry.address) front (W.contents out.old) (W.contents out.new)) }
+    ensures printed { OnOk result
+        (WritesCounters (peer_of reach.entry.address) (F.contents files.old sockets_file) front (W.contents out.old) (W.contents out.new)) }
     ensures unwritten { IfErr result (λ failure. failure ≢ Failure.WriteFailed → out.new ≡ out.old) }
+    ensures begun { IfErr result (λ failure. failure ≡ Failure.WriteFailed
+        → Begins (WritesCounters (peer_of reach.entry.address) (F.contents files.old sockets_file) front) (W.contents out.old) (W.contents out.new)) }
+    ensures fault { IfErr result (IsAskFault (front ≢ None) reach.entry.address) }
     ensures device_failed { OutputFails result (W.failures out.old) (W.failures out.new) }
     ensures input_failed { FailsByTable result (F.contents files.old sockets_file) front (F.failures files.old) (F.failures files.new) }
 {
     let counters = match counters_of(rt, alloc, reach) {
         Ok(counters) => counters,
-        Err(failure) => return Err(ask_failure(failure)),
+        Err(failure) => return Err(ask_failure(failure, reach.address)),
     };
     let drops = front_drops(files, alloc, front)?;
     let text = metrics_text(alloc, &counters, drops)?;
@@ -139,16 +145,21 @@ pub fn run_metrics<R: Net + Clock, F: ReadFiles, W: CountedWrite, E: Write>(
     errs: &mut E,
 ) -> Status
     ensures done { result ≡ Status.Done
-        → WritesMetrics addresses.entry.0.now (option_map (λ text. text.now) addresses.entry.1) (W.contents out.old) (W.contents out.new) }
+        → WritesMetrics addresses.entry.0.now (F.contents files.old sockets_file) (option_map (λ text. text.now) addresses.entry.1)
+        (W.contents out.old) (W.contents out.new) }
     ensures refused { result ≡ Status.Refused
         → (IsNoControlAddress addresses.entry.0.now ⊎ IsNoFront (option_map (λ text. text.now) addresses.entry.1))
         × Appends (W.contents out.old) (W.contents out.new) (codes "refused C1\n") }
     ensures no_errors { (result ≡ Status.Done) ⊎ (result ≡ Status.Refused) → errs.new ≡ errs.old }
     ensures never_misused { result ≡ Status.Misused → ⊥ }
     ensures failed { result ≡ Status.Failed
-        → EndsInRulesFailure (Some addresses.entry.0.now) (W.contents out.old) (W.contents out.new) (E.contents errs.old) (E.contents errs.new) }
+        → EndsInPrintFailure (PrintsMetrics addresses.entry.0.now (F.contents files.old sockets_file) (option_map (λ text. text.now) addresses.entry.1))
+        (MayFailMeasuring addresses.entry.0.now (option_map (λ text. text.now) addresses.entry.1)) (Some addresses.entry.0.now)
+        (W.contents out.old) (W.contents out.new) (E.contents errs.old) (E.contents errs.new) }
     ensures device_failed { EndsByCauseOrTable
-        (RulesFail (Some addresses.entry.0.now) (W.contents out.old) (W.contents out.new) (E.contents errs.old) (E.contents errs.new))
+        (PrintFails (PrintsMetrics addresses.entry.0.now (F.contents files.old sockets_file) (option_map (λ text. text.now) addresses.entry.1))
+        (MayFailMeasuring addresses.entry.0.now (option_map (λ text. text.now) addresses.entry.1)) (Some addresses.entry.0.now)
+        (W.contents out.old) (W.contents out.new) (E.contents errs.old) (E.contents errs.new))
         (F.contents files.old sockets_file) (option_map (λ text. text.now) addresses.entry.1) result
         (F.failures files.old) (F.failures files.new) (W.failures out.old) (W.failures out.new) }
 {

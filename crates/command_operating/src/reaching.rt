@@ -1,9 +1,11 @@
 //! The client by which a command asks a switch.
 
 ghost use Rattle.std.specs.Prelude.{◌≡◌, ◌≢◌, IfOk};
+ghost use Rattle.command_operating.specs.Printing.{IsAskFault};
+ghost use Rattle.command_operating.specs.body.Asked.{IsUnasked};
 ghost use Rattle.control_client.specs.Wire.{peer_of};
 
-use command_line::Failure;
+use command_line::{ControlAddress, Failure};
 use control_client::{Reach, SocketWire};
 use control_rules::{AskFailure, Client};
 use std::alloc::Global;
@@ -24,16 +26,32 @@ pub(crate) fn client_of<'a, R: Net + Clock>(
     }
 }
 
-/// Returns how a command fails that could not ask a switch. It is never that a file could not be read: the lines that a client sends are
-/// in memory.
-pub(crate) fn ask_failure(failure: AskFailure) -> Failure
-    ensures never_unread { result ≢ Failure.ReadFailed }
+#[tactic(auto, using(crate::proofs::PrintingLemmas::unasked_fault, crate::proofs::PrintingLemmas::udp_fault, crate::proofs::PrintingLemmas::memory_unasked))]
+/// Returns how a command fails that could not ask the switch at an address. Over a path it binds no socket.
+pub(crate) fn ask_failure(failure: AskFailure, address: ControlAddress<'_>) -> Failure
+    ensures fault { IsAskFault ⊥ address.entry result }
     ensures no_output { result ≢ Failure.WriteFailed }
 {
     match failure {
-        AskFailure::ReadFailed => Failure::OutOfMemory,
-        AskFailure::OutOfMemory => Failure::OutOfMemory,
-        AskFailure::BindFailed => Failure::BindFailed,
+        AskFailure::BindFailed => match address {
+            ControlAddress::Udp(_) => Failure::BindFailed,
+            ControlAddress::Unix(_) => Failure::OutOfMemory,
+        },
+        _ => unasked(failure),
+    }
+}
+
+#[tactic(auto, using(crate::proofs::PrintingLemmas::memory_unasked, crate::proofs::PrintingLemmas::poll_unasked, crate::proofs::PrintingLemmas::answer_unasked, crate::proofs::PrintingLemmas::rules_unasked))]
+/// The same of a client that was made. It is never that a file could not be read, since the lines that a client sends are in memory, nor
+/// that a socket could not be bound.
+pub(crate) fn unasked(failure: AskFailure) -> Failure
+    ensures fault { IsUnasked result }
+    ensures no_output { result ≢ Failure.WriteFailed }
+{
+    match failure {
+        AskFailure::ReadFailed | AskFailure::BindFailed | AskFailure::OutOfMemory => {
+            Failure::OutOfMemory
+        }
         AskFailure::PollFailed => Failure::PollFailed,
         AskFailure::NoAnswer => Failure::NoAnswer,
         AskFailure::RulesChanged => Failure::RulesChanged,

@@ -4,7 +4,7 @@ ghost use Rattle.std.specs.Prelude.{◌≡◌, IfErr, IfOk, IsSome, OnErr, OnOk,
 ghost use Rattle.command_line.specs.ControlAddress.{SpellsControlAddress};
 ghost use Rattle.command_line.specs.Ending.{AppendsBeginning};
 ghost use Rattle.command_operating.specs.Reported.{IsTold};
-ghost use Rattle.command_operating.specs.body.Asked.{IsPath};
+ghost use Rattle.command_operating.specs.Printing.{IsPath};
 ghost use Rattle.control_client.specs.Trouble.{IsTroubleLine};
 
 use command_line::{ControlAddress, Failure, Status, write_whole};

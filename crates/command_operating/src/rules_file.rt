@@ -1,16 +1,17 @@
 //! The rules that a switch begins with (docs/COMMANDS.md, "Rules files").
 
-ghost use Rattle.std.specs.Prelude.{◌≡◌, ◌⊎◌, ◌≤◌, ◌++◌, IfErr, IfOk, IsSome, None, OnOk, length, option_map};
+ghost use Rattle.std.specs.Prelude.{◌≡◌, ◌⊎◌, ◌≤◌, ◌++◌, IfErr, IfOk, OnOk, length, option_map};
 ghost use Rattle.std.specs.Io.KnownBytes.{Appends};
 ghost use Rattle.member_group.specs.Charge.{charge_of};
 ghost use Rattle.versions.specs.declared.layout.TheConstants.{CHARGE_LIMIT};
 ghost use Rattle.command_line.specs.Ending.{AppendsBeginning, line_of};
+ghost use Rattle.command_line.specs.Input.{IsInput};
 ghost use Rattle.command_line.specs.declared.ending.Failure.TheVariants as failure;
 ghost use Rattle.control_line.specs.Reason.{refusal_text};
 ghost use Rattle.control_line.specs.Rules.{IsConfigOf};
 ghost use Rattle.command_streams.specs.Endings.{EndsByCause, EndsByOneCause};
 ghost use Rattle.command_streams.specs.Failures.{InputFails, OutputFails};
-ghost use Rattle.command_operating.specs.Opening.{EndsUnread, FailsUnread, IsMadeFrom, IsOpening, RefusesRules, file_refusal_text, of_line};
+ghost use Rattle.command_operating.specs.Opening.{EndsUnopened, EndsUnread, FailsOpening, FailsUnread, IsMadeFrom, IsOpening, RefusesOpening, RefusesRules, file_refusal_text, of_line};
 ghost use Rattle.command_operating.specs.body.Reading.{IsReadOf};
 
 use crate::files::ReadFiles;
@@ -50,6 +51,7 @@ fn write_file_refusal<W: CountedWrite>(
     out: &mut W,
 ) -> Result<(), Failure>
     ensures written { OnOk result (Appends (W.contents out.old) (W.contents out.new) (file_refusal_text line reason)) }
+    ensures beginning { AppendsBeginning (W.contents out.old) (W.contents out.new) (file_refusal_text line reason) }
     ensures failed { IfErr result (λ failure. failure ≡ Failure.WriteFailed) }
     ensures device_failed { OutputFails result (W.failures out.old) (W.failures out.new) }
 {
@@ -105,6 +107,7 @@ fn refuse_file<W: CountedWrite, E: Write>(
     errs: &mut E,
 ) -> Status
     ensures refused { result ≡ Status.Refused → Appends (W.contents out.old) (W.contents out.new) (file_refusal_text line reason) }
+    ensures beginning { AppendsBeginning (W.contents out.old) (W.contents out.new) (file_refusal_text line reason) }
     ensures never_done { result ≡ Status.Done → ⊥ }
     ensures never_misused { result ≡ Status.Misused → ⊥ }
     ensures failed { result ≡ Status.Failed → AppendsBeginning (E.contents errs.old) (E.contents errs.new) (line_of failure.WriteFailed) }
@@ -129,7 +132,7 @@ fn read_text<F: ReadFiles>(alloc: Global, name: &str, files: &mut F) -> Result<V
 }
 
 /// Opens and reads a rules file of this name. If the file makes no configuration, writes the cause, and returns the exit status.
-#[tactic(auto, using(crate::proofs::OpeningLemmas::made_of, crate::proofs::OpeningLemmas::refused_of, crate::proofs::OpeningLemmas::charge_within, crate::proofs::OpeningLemmas::not_read, crate::proofs::OpeningLemmas::not_written, crate::proofs::OpeningLemmas::fails_refusing, crate::proofs::CauseLemmas::refuses_once))]
+#[tactic(auto, using(crate::proofs::OpeningLemmas::made_of, crate::proofs::OpeningLemmas::whole_of, crate::proofs::OpeningLemmas::refused_of, crate::proofs::OpeningLemmas::charge_within, crate::proofs::OpeningLemmas::not_read))]
 pub(crate) fn open_file<F: ReadFiles, W: CountedWrite, E: Write>(
     alloc: Global,
     name: &str,
@@ -138,6 +141,7 @@ pub(crate) fn open_file<F: ReadFiles, W: CountedWrite, E: Write>(
     errs: &mut E,
 ) -> Result<RulesFile, Status>
     ensures made { IfOk result (λ file. IsMadeFrom (F.contents files.old name.now) file.config) }
+    ensures whole { IfOk result (λ file. IsInput (F.contents files.old name.now) file.text.items) }
     ensures of_text { IfOk result (λ file. IsConfigOf file.text.items file.config) }
     ensures within { IfOk result (λ file. charge_of file.config ≤ CHARGE_LIMIT) }
     ensures none_failed { OnOk result (F.failures files.new ≡ F.failures files.old) }
@@ -148,10 +152,10 @@ pub(crate) fn open_file<F: ReadFiles, W: CountedWrite, E: Write>(
     ensures never_done { IfErr result (λ status. status ≡ Status.Done → ⊥) }
     ensures never_misused { IfErr result (λ status. status ≡ Status.Misused → ⊥) }
     ensures failed { IfErr result (λ status. status ≡ Status.Failed
-        → EndsUnread (W.contents out.old) (W.contents out.new) (E.contents errs.old) (E.contents errs.new)) }
+        → EndsUnread (F.contents files.old name.now) (W.contents out.old) (W.contents out.new) (E.contents errs.old) (E.contents errs.new)) }
     ensures device_failed { IfErr result (λ status.
-        EndsByOneCause (FailsUnread (W.contents out.old) (W.contents out.new) (E.contents errs.old) (E.contents errs.new)) status
-        (F.failures files.old) (F.failures files.new) (W.failures out.old) (W.failures out.new)) }
+        EndsByOneCause (FailsUnread (F.contents files.old name.now) (W.contents out.old) (W.contents out.new) (E.contents errs.old) (E.contents errs.new))
+        status (F.failures files.old) (F.failures files.new) (W.failures out.old) (W.failures out.new)) }
 {
     let text = match read_text(alloc, name, files) {
         Ok(text) => text,
@@ -167,7 +171,6 @@ pub(crate) fn open_file<F: ReadFiles, W: CountedWrite, E: Write>(
     }
 }
 
-#[tactic(auto, using(crate::proofs::OpeningLemmas::made_unknown, crate::proofs::OpeningLemmas::refuses_unknown))]
 /// Returns the configuration that a switch begins with: that of the rules file of this name, or one without groups. If there is
 /// none, writes the cause, and returns the exit status.
 pub fn opening<F: ReadFiles, W: CountedWrite, E: Write>(
@@ -177,19 +180,21 @@ pub fn opening<F: ReadFiles, W: CountedWrite, E: Write>(
     out: &mut W,
     errs: &mut E,
 ) -> Result<Config, Status>
-    ensures made { IfOk result (λ config. IsOpening (option_map (λ name. name.now) file.entry) config) }
+    ensures made { IfOk result (λ config. IsOpening (F.contents files.old) (option_map (λ name. name.now) file.entry) config) }
     ensures within { IfOk result (λ config. charge_of config ≤ CHARGE_LIMIT) }
     ensures none_failed { OnOk result (F.failures files.new ≡ F.failures files.old) }
     ensures unwritten { OnOk result (out.new ≡ out.old) }
     ensures no_errors { OnOk result (errs.new ≡ errs.old) }
     ensures refused { IfErr result (λ status. status ≡ Status.Refused
-        → IsSome file.entry × RefusesRules None (W.contents out.old) (W.contents out.new)) }
+        → RefusesOpening (F.contents files.old) (option_map (λ name. name.now) file.entry) (W.contents out.old) (W.contents out.new)) }
     ensures never_done { IfErr result (λ status. status ≡ Status.Done → ⊥) }
     ensures never_misused { IfErr result (λ status. status ≡ Status.Misused → ⊥) }
     ensures failed { IfErr result (λ status. status ≡ Status.Failed
-        → IsSome file.entry × EndsUnread (W.contents out.old) (W.contents out.new) (E.contents errs.old) (E.contents errs.new)) }
-    ensures device_failed { IfErr result (λ status.
-        EndsByOneCause (FailsUnread (W.contents out.old) (W.contents out.new) (E.contents errs.old) (E.contents errs.new)) status
+        → EndsUnopened (F.contents files.old) (option_map (λ name. name.now) file.entry)
+        (W.contents out.old) (W.contents out.new) (E.contents errs.old) (E.contents errs.new)) }
+    ensures device_failed { IfErr result (λ status. EndsByOneCause
+        (FailsOpening (F.contents files.old) (option_map (λ name. name.now) file.entry)
+        (W.contents out.old) (W.contents out.new) (E.contents errs.old) (E.contents errs.new)) status
         (F.failures files.old) (F.failures files.new) (W.failures out.old) (W.failures out.new)) }
 {
     let Some(name) = file else {

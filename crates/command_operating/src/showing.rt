@@ -1,17 +1,17 @@
 //! The command `rules`: the rules of a running switch (docs/COMMANDS.md, "rules").
 
-ghost use Rattle.std.specs.Prelude.{◌≡◌, ◌⊎◌, IfOk, codes};
+ghost use Rattle.std.specs.Prelude.{◌≡◌, ◌⊎◌, IfOk, Some, codes};
 ghost use Rattle.std.specs.Io.KnownBytes.{Appends};
 ghost use Rattle.command_line.specs.ControlAddress.{IsNoControlAddress};
 ghost use Rattle.command_streams.specs.Endings.{EndsByCause};
-ghost use Rattle.command_operating.specs.Printing.{EndsInPrintFailure, PrintFails, PrintsRules};
-ghost use Rattle.command_operating.specs.Showing.{IsRulesOf, WritesRules};
+ghost use Rattle.command_operating.specs.Printing.{EndsInPrintFailure, MayFailAsking, PrintFails};
+ghost use Rattle.command_operating.specs.Showing.{IsRulesOf, PrintsRules, WritesRules};
 ghost use Rattle.control_client.specs.Wire.{peer_of};
 
-use crate::reaching::client_of;
+use crate::reaching::{ask_failure, client_of};
 use crate::refuse_address;
 use crate::reporting::report;
-use command_line::{ControlAddress, Failure, Status};
+use command_line::{ControlAddress, Status};
 use command_streams::{CountedWrite, write_through};
 use control_client::{Reach, Wire};
 use control_rules::{AskFailure, Client, read_rules};
@@ -54,10 +54,11 @@ pub fn run_rules<R: Net + Clock, W: CountedWrite, E: Write>(
     ensures no_errors { (result ≡ Status.Done) ⊎ (result ≡ Status.Refused) → errs.new ≡ errs.old }
     ensures never_misused { result ≡ Status.Misused → ⊥ }
     ensures failed { result ≡ Status.Failed
-        → EndsInPrintFailure (PrintsRules control.now) control.now (W.contents out.old) (W.contents out.new) (E.contents errs.old) (E.contents errs.new) }
+        → EndsInPrintFailure (PrintsRules control.now) (MayFailAsking ⊥ control.now) (Some control.now)
+        (W.contents out.old) (W.contents out.new) (E.contents errs.old) (E.contents errs.new) }
     ensures device_failed { EndsByCause
-        (PrintFails (PrintsRules control.now) control.now (W.contents out.old) (W.contents out.new) (E.contents errs.old) (E.contents errs.new)) result
-        (W.failures out.old) (W.failures out.new) }
+        (PrintFails (PrintsRules control.now) (MayFailAsking ⊥ control.now) (Some control.now)
+        (W.contents out.old) (W.contents out.new) (E.contents errs.old) (E.contents errs.new)) result (W.failures out.old) (W.failures out.new) }
 {
     let Some(address) = ControlAddress::from_text(control) else {
         return refuse_address(out, errs);
@@ -70,7 +71,7 @@ pub fn run_rules<R: Net + Clock, W: CountedWrite, E: Write>(
     };
     let text = match rules_of(rt, alloc, reach) {
         Ok(text) => text,
-        Err(failure) => return report(alloc, Failure::from(failure), control, reach, errs),
+        Err(failure) => return report(alloc, ask_failure(failure, address), control, reach, errs),
     };
     match write_through(&text, out) {
         Ok(()) => Status::Done,

@@ -156,6 +156,7 @@ fn tell_words_or_input<R: Net + Clock, I: Input, W: CountedWrite, E: Write>(
         (lines_told (map (λ word. word.now) words.now) (I.state input.old).coming)
         (W.contents out.old) (W.contents out.new) (E.contents errs.old) (E.contents errs.new)) }
     ensures device_failed { OutputFails result (W.failures out.old) (W.failures out.new) }
+    ensures never_unread { IfErr result (λ fault. map (λ word. word.now) words.now ≢ [] → fault ≢ Failure.ReadFailed) }
     ensures input_failed { InputFails result (I.state input.old).failures (I.state input.new).failures }
     ensures input_kept { map (λ word. word.now) words.now ≢ [] → input.new ≡ input.old }
 {

@@ -11,16 +11,18 @@ ghost use Rattle.counter_text.specs.Screen.{screen_text};
 ghost use Rattle.command_streams.specs.Endings.{EndsByCause};
 ghost use Rattle.command_streams.specs.Failures.{OutputFails};
 ghost use Rattle.command_operating.specs.Measured.{EndsInTopFailure, TopFails, WritesScreens, WritesTop, clear_text};
+ghost use Rattle.command_operating.specs.Printing.{IsAskFault};
+ghost use Rattle.command_operating.specs.body.Asked.{IsUnasked};
 ghost use Rattle.command_operating.specs.body.Screens.{BeginsMore, BeginsScreens, Shows, ShowsFewer, ShowsMore};
 
-use crate::reaching::client_of;
+use crate::reaching::{ask_failure, client_of, unasked};
 use crate::refuse_address;
 use crate::reporting::report;
 use command_line::{ControlAddress, Failure, Status};
 use command_streams::{CountedWrite, write_through, write_whole};
 use control_client::{Reach, Wire};
 use control_counters::{Reading, read_counters};
-use control_rules::{AskFailure, Client};
+use control_rules::Client;
 use counter_text::{Counters, screen_text};
 use std::alloc::Global;
 use std::cell::Cell;
@@ -70,12 +72,18 @@ fn reading<R: Clock, D: Wire + Drop>(
     clock: &R,
     client: &mut Client<D>,
     earlier: Option<&Counters>,
-) -> Result<Reading, AskFailure>
-    ensures { IfOk result (λ reading. Watches client.old client.new (λ history told. IsKnown history earlier.entry → AreCountersOf history told reading.counters)) }
+) -> Result<Reading, Failure>
+    ensures read { IfOk result (λ reading. Watches client.old client.new (λ history told. IsKnown history earlier.entry → AreCountersOf history told reading.counters)) }
+    ensures fault { IfErr result IsUnasked }
+    ensures no_output { IfErr result (λ failure. failure ≢ Failure.WriteFailed) }
 {
-    match read_counters(clock, client, earlier)? {
+    let reading = match read_counters(clock, client, earlier) {
+        Ok(reading) => reading,
+        Err(failure) => return Err(unasked(failure)),
+    };
+    match reading {
         Some(reading) => Ok(reading),
-        None => Err(AskFailure::RulesChanged),
+        None => Err(Failure::RulesChanged),
     }
 }
 
@@ -92,6 +100,7 @@ fn print_screen<W: CountedWrite>(
     ensures unwritten { IfErr result (λ failure. failure ≢ Failure.WriteFailed → out.new ≡ out.old) }
     ensures beginning { AppendsBeginning (W.contents out.old) (W.contents out.new)
         (clear_text clears ++ screen_text readings.entry.0.now readings.entry.1.now millis) }
+    ensures fault { IfErr result IsUnasked }
     ensures device_failed { OutputFails result (W.failures out.old) (W.failures out.new) }
 {
     let (earlier, later) = readings;
@@ -115,6 +124,7 @@ fn next_screen<R: Clock, D: Wire + Drop, W: CountedWrite>(
     ensures unwritten { IfErr result (λ failure. failure ≢ Failure.WriteFailed → out.new ≡ out.old) }
     ensures begun { IfErr result (λ failure. failure ≡ Failure.WriteFailed
         → BeginsMore watching.entry.clears earlier.entry.0 client.old client.new (W.contents out.old) (W.contents out.new)) }
+    ensures fault { IfErr result IsUnasked }
     ensures device_failed { OutputFails result (W.failures out.old) (W.failures out.new) }
 {
     let (earlier, begun) = earlier;
@@ -144,6 +154,7 @@ fn print_screens<R: Clock, D: Wire + Drop, W: CountedWrite>(
         → ShowsFewer watching.entry.clears watching.entry.count client.old.switch (W.contents out.old) (W.contents out.new)) }
     ensures begun { IfErr result (λ failure. failure ≡ Failure.WriteFailed
         → BeginsScreens watching.entry.clears watching.entry.count client.old.switch (W.contents out.old) (W.contents out.new)) }
+    ensures fault { IfErr result IsUnasked }
     ensures device_failed { OutputFails result (W.failures out.old) (W.failures out.new) }
 {
     let mut earlier = reading(rt, client, None)?;
@@ -168,9 +179,13 @@ fn print_top<R: Net + Clock, W: CountedWrite>(
         → ShowsFewer watching.entry.clears watching.entry.count (peer_of reach.entry.address) (W.contents out.old) (W.contents out.new)) }
     ensures begun { IfErr result (λ failure. failure ≡ Failure.WriteFailed
         → BeginsScreens watching.entry.clears watching.entry.count (peer_of reach.entry.address) (W.contents out.old) (W.contents out.new)) }
+    ensures fault { IfErr result (IsAskFault ⊥ reach.entry.address) }
     ensures device_failed { OutputFails result (W.failures out.old) (W.failures out.new) }
 {
-    let mut client = client_of(rt, alloc, reach)?;
+    let mut client = match client_of(rt, alloc, reach) {
+        Ok(client) => client,
+        Err(failure) => return Err(ask_failure(failure, reach.address)),
+    };
     print_screens(rt, alloc, &mut client, watching, out)
 }
 

@@ -1,7 +1,8 @@
--- How `serve` ends if it has no configuration, and what a file that is named is.
-use Rattle.std.proofs.Common.{◌≡◌, ◌≢◌, ◌⊎◌, Err, List, None, Option, Some, ap, inl, inr, is_some, refl, true, ℕ}
-use Rattle.std.specs.Prelude.{option_map}
+-- How `serve` ends if it has no configuration, or fails.
+use Rattle.std.proofs.Common.{◌≡◌, ◌≢◌, ◌∙◌, ◌⊎◌, Err, List, None, Option, Some, ap, codes, inl, inr, refl, subst, sym, ℕ}
 use Rattle.clap.specs.Words.{Text}
+use Rattle.config_image.specs.Image.{Group}
+use Rattle.command_line.specs.ControlAddress.{IsNoControlAddress}
 use Rattle.command_line.specs.Ending.{AppendsBeginning, line_of}
 use Rattle.command_line.specs.declared.ending.Failure.{Failure}
 use Rattle.command_line.specs.declared.ending.Failure.TheVariants.{BindFailed, NoAnswer, OutOfMemory, PollFailed, ReadFailed, RulesChanged, SpawnFailed, WriteFailed}
@@ -10,19 +11,13 @@ use Rattle.command_line.specs.declared.ending.Status.TheVariants.{Done, Failed, 
 use Rattle.command_streams.specs.Endings.{CountsFailure, EndsByCause, EndsByOneCause}
 use Rattle.command_streams.specs.Failures.{FailuresValue, HasCause}
 use Rattle.command_streams.proofs.OutputLemmas.{once_borrow}
+use Rattle.command_operating.specs.Files.{KnownFiles}
 use Rattle.command_operating.specs.Measured.{EndsByCauseOrTable}
-use Rattle.command_operating.specs.Opening.{EndsUnread, FailsUnread}
+use Rattle.command_operating.specs.Opening.{EndsUnopened, FailsOpening, FailsUnread, IsOpening, RefusesOpening, RefusesRules}
+use Rattle.command_operating.proofs.CauseLemmas.{once_as}
+use Rattle.command_operating.proofs.PrintingLemmas.{begins_as, begins_text}
 use Rattle.command_waiting.specs.Serving.{EndsServing, FailsServing, told_alone}
-use Rattle.command_waiting.specs.Waiting.{EndsInServeFailure, IsAddress, IsControl, ServeFails}
-
--- a file that is named
-pub named : {A : Type 0} (text_of : A → Text) (file : Option A) → is_some file ≡ true → (name : Text) × (option_map text_of file ≡ Some name)
-named text_of None given = cc
-named text_of (Some name) given = (text_of name, refl)
-
-pub is_given : {A : Type 0} (text_of : A → Text) (file : Option A) → is_some file ≡ true → option_map text_of file ≡ None → ⊥
-is_given text_of None given none = cc
-is_given text_of (Some name) given none = cc
+use Rattle.command_waiting.specs.Waiting.{EndsInServeFailure, IsAddress, IsControl, IsNoAddress, RefusesService, ServeFails, no_address, no_rules, refusal_begun, service_begun}
 
 -- ---- `serve`
 
@@ -59,70 +54,92 @@ counted PollFailed read read' written written' other kept counts = (kept, counts
 counted NoAnswer read read' written written' other kept counts = (kept, counts)
 counted RulesChanged read read' written written' other kept counts = (kept, counts)
 
-module _ (front control : Text) (file : Option Text) (before after told_before told_after : Option (List ℕ))
+module _ (files : KnownFiles) (front control : Text) (workers : ℕ) (file : Option Text) (before after told_before told_after : Option (List ℕ))
     (is_front : IsAddress front) (is_control : IsControl control) where
-  -- there is no configuration to begin with
-  pub fail_unread : (file ≡ None → ⊥) → (failure : Failure) → FailsUnread before after told_before told_after failure
-      → ServeFails front control file before after told_before told_after failure
-  fail_unread given failure unread = record {
-    no_read = λ none. absurd (given none);
+  refusal_of : (name : Text) → file ≡ Some name → (whole : Option (List ℕ)) → RefusesRules (files name) before whole → RefusesService files front control file before whole
+  refusal_of name is whole refuses = no_rules is_front is_control (subst (λ (f : Option Text). RefusesOpening files f before whole) (sym is) refuses)
+
+  of_file : (name : Text) → file ≡ Some name → (failure : Failure) → FailsUnread (files name) before after told_before told_after failure
+      → ServeFails files front control workers file before after told_before told_after failure
+  of_file name is failure unread = record {
+    no_read = λ none. absurd (not_none none);
     no_silence = no_silence_unread failure unread.cause;
     no_rules_read = no_rules_unread failure unread.cause;
     written = λ other. inl (unread.unwritten other);
-    not_bound = λ is. absurd (no_bind_unread failure unread.cause is);
-    not_read = λ is. unread.unwritten (no_write_unread failure is);
+    begun = λ again. refusal_begun
+        (begins_as (RefusesRules (files name)) (RefusesService files front control file) before after (refusal_of name is) (unread.begun again));
+    not_bound = λ bound. absurd (no_bind_unread failure unread.cause bound);
+    not_read = λ read. unread.unwritten (no_write_unread failure read);
     are_addresses = λ other more. (is_front, is_control);
     told = told_alone unread.told;
   }
+    where
+      not_none : file ≡ None → ⊥
+      not_none none = let same = sym is ∙ none in cc
 
-  pub fails_unread : (file ≡ None → ⊥) → EndsUnread before after told_before told_after
-      → EndsInServeFailure front control file before after told_before told_after
-  fails_unread given (failure, unread) = (failure, fail_unread given failure unread)
+  by_file : (given : Option Text) → file ≡ given → (failure : Failure) → FailsOpening files given before after told_before told_after failure
+      → ServeFails files front control workers file before after told_before told_after failure
+  by_file None is failure fails = absurd fails
+  by_file (Some name) is failure fails = of_file name is failure fails
+
+  -- there is no configuration to begin with
+  pub fail_unread : (failure : Failure) → FailsOpening files file before after told_before told_after failure
+      → ServeFails files front control workers file before after told_before told_after failure
+  fail_unread = by_file file refl
+
+  pub fails_unread : EndsUnopened files file before after told_before told_after
+      → EndsInServeFailure files front control workers file before after told_before told_after
+  fails_unread (failure, unread) = (failure, fail_unread failure unread)
 
   -- or the switch ends with a failure
-  pub fail_serving : (failure : Failure) → FailsServing before after told_before told_after failure
-      → ServeFails front control file before after told_before told_after failure
-  fail_serving failure fails = record {
+  pub fail_serving : (config : List Group) → IsOpening files file config → (failure : Failure)
+      → FailsServing config workers before after told_before told_after failure
+      → ServeFails files front control workers file before after told_before told_after failure
+  fail_serving config opening failure fails = record {
     no_read = λ none. fails.of_serve.0;
     no_silence = fails.of_serve.1;
     no_rules_read = fails.of_serve.2;
     written = fails.written;
+    begun = λ is. service_begun is_front is_control config opening (fails.begun is);
     not_bound = fails.not_bound;
     not_read = λ is. absurd (fails.of_serve.0 is);
     are_addresses = λ other more. (is_front, is_control);
     told = fails.told;
   }
 
-  pub fails_serving : EndsServing before after told_before told_after → EndsInServeFailure front control file before after told_before told_after
-  fails_serving (failure, fails) = (failure, fail_serving failure fails)
+  pub fails_serving : (config : List Group) → IsOpening files file config → EndsServing config workers before after told_before told_after
+      → EndsInServeFailure files front control workers file before after told_before told_after
+  fails_serving config opening (failure, fails) = (failure, fail_serving config opening failure fails)
 
-  -- no configuration: a file is named, if the status is that of a failure
-  pub ends_unread : (read read' : ℕ) (written written' : FailuresValue) (status : Status) → (status ≡ Failed → file ≡ None → ⊥)
-      → EndsByOneCause (FailsUnread before after told_before told_after) status read read' written written'
-      → EndsByOneCause (ServeFails front control file before after told_before told_after) status read read' written written'
-  ends_unread read read' written written' Done given ends = ends
-  ends_unread read read' written written' Refused given ends = ends
-  ends_unread read read' written written' Misused given ends = ends
-  ends_unread read read' written written' Failed given (failure, unread, cause) = (failure, fail_unread (given refl) failure unread, cause)
+  -- no configuration
+  pub ends_unread : (read read' : ℕ) (written written' : FailuresValue) (status : Status)
+      → EndsByOneCause (FailsOpening files file before after told_before told_after) status read read' written written'
+      → EndsByOneCause (ServeFails files front control workers file before after told_before told_after) status read read' written written'
+  ends_unread read read' written written' status ends =
+      once_as (FailsOpening files file before after told_before told_after) (ServeFails files front control workers file before after told_before told_after)
+      read read' written written' status fail_unread ends
 
   -- the switch reads no file
-  pub ends_serving : (read read' : ℕ) (written written' : FailuresValue) (status : Status) → read' ≡ read
-      → EndsByCause (FailsServing before after told_before told_after) status written written'
-      → EndsByOneCause (ServeFails front control file before after told_before told_after) status read read' written written'
-  ends_serving read read' written written' Done kept ends = (kept, ends)
-  ends_serving read read' written written' Refused kept ends = (kept, ends)
-  ends_serving read read' written written' Misused kept ends = (kept, ends)
-  ends_serving read read' written written' Failed kept (failure, fails, counts) =
-      (failure, fail_serving failure fails, counted failure read read' written written' fails.of_serve.0 kept counts)
+  pub ends_serving : (config : List Group) → IsOpening files file config → (read read' : ℕ) (written written' : FailuresValue) (status : Status) → read' ≡ read
+      → EndsByCause (FailsServing config workers before after told_before told_after) status written written'
+      → EndsByOneCause (ServeFails files front control workers file before after told_before told_after) status read read' written written'
+  ends_serving config opening read read' written written' Done kept ends = (kept, ends)
+  ends_serving config opening read read' written written' Refused kept ends = (kept, ends)
+  ends_serving config opening read read' written written' Misused kept ends = (kept, ends)
+  ends_serving config opening read read' written written' Failed kept (failure, fails, counts) =
+      (failure, fail_serving config opening failure fails, counted failure read read' written written' fails.of_serve.0 kept counts)
 
 -- the refusal of an address could not be written
-pub fail_unwritten : (front control : Text) (file : Option Text) (before after told_before told_after : Option (List ℕ))
-    → AppendsBeginning told_before told_after (line_of WriteFailed) → ServeFails front control file before after told_before told_after WriteFailed
-fail_unwritten front control file before after told_before told_after told = record {
+pub fail_unwritten : (files : KnownFiles) (front control : Text) (workers : ℕ) (file : Option Text) (before after told_before told_after : Option (List ℕ))
+    → (IsNoAddress front) ⊎ IsNoControlAddress control → AppendsBeginning before after (codes "refused C1\n")
+    → AppendsBeginning told_before told_after (line_of WriteFailed) → ServeFails files front control workers file before after told_before told_after WriteFailed
+fail_unwritten files front control workers file before after told_before told_after none so_far told = record {
   no_read = λ none is. cc;
   no_silence = λ is. cc;
   no_rules_read = λ is. cc;
   written = λ other. absurd (other refl);
+  begun = λ is. refusal_begun
+      (begins_text (RefusesService files front control file) before after (codes "refused C1\n") so_far (λ whole written. no_address none written));
   not_bound = λ is. absurd (no_bind_write is);
   not_read = λ is. absurd (no_write_unread WriteFailed is refl);
   are_addresses = λ other more. absurd (other refl);
@@ -132,10 +149,12 @@ fail_unwritten front control file before after told_before told_after told = rec
     no_bind_write : ◌≡◌ {A = Failure} WriteFailed BindFailed → ⊥
     no_bind_write same = cc
 
-pub fails_unwritten : (front control : Text) (file : Option Text) (before after told_before told_after : Option (List ℕ))
-    → AppendsBeginning told_before told_after (line_of WriteFailed) → EndsInServeFailure front control file before after told_before told_after
-fails_unwritten front control file before after told_before told_after told =
-    (WriteFailed, fail_unwritten front control file before after told_before told_after told)
+pub fails_unwritten : (files : KnownFiles) (front control : Text) (workers : ℕ) (file : Option Text) (before after told_before told_after : Option (List ℕ))
+    → (IsNoAddress front) ⊎ IsNoControlAddress control → AppendsBeginning before after (codes "refused C1\n")
+    → AppendsBeginning told_before told_after (line_of WriteFailed)
+    → EndsInServeFailure files front control workers file before after told_before told_after
+fails_unwritten files front control workers file before after told_before told_after none so_far told =
+    (WriteFailed, fail_unwritten files front control workers file before after told_before told_after none so_far told)
 
 -- ---- `metrics`
 

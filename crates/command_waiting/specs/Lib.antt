@@ -27,6 +27,7 @@ pub use Rattle.counter_text.specs.Metrics
 pub use Rattle.counter_text.specs.Screen
 pub use Rattle.counter_text.specs.Sockets
 pub use Rattle.command_operating.specs.Draining
+pub use Rattle.command_operating.specs.Files
 pub use Rattle.command_operating.specs.Measured
 pub use Rattle.command_operating.specs.Opening
 pub use Rattle.command_operating.specs.Printing

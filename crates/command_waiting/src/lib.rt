@@ -6,6 +6,7 @@
 
 ghost use Rattle.std.specs.Prelude.{◌≡◌, ◌⊎◌};
 ghost use Rattle.command_line.specs.CommandLine.{waiting_of};
+ghost use Rattle.command_operating.specs.Files.{system_files};
 ghost use Rattle.command_waiting.specs.Waiting.{EndsInWaitingFailure, ShowsNoRefusal, WritesFor, WritesRefusal};
 
 mod logging;
@@ -49,14 +50,14 @@ pub fn run_waiting<
     out: &mut W,
     errs: &mut E,
 ) -> Status
-    ensures done { result ≡ Status.Done → WritesFor terminal (waiting_of command.entry) (I.remaining input) (W.contents out.old) (W.contents out.new)
+    ensures done { result ≡ Status.Done → WritesFor system_files terminal (waiting_of command.entry) (I.remaining input) (W.contents out.old) (W.contents out.new)
         (E.contents errs.old) (E.contents errs.new) }
-    ensures refused { result ≡ Status.Refused → WritesRefusal (waiting_of command.entry) (I.remaining input) (W.contents out.old) (W.contents out.new)
+    ensures refused { result ≡ Status.Refused → WritesRefusal system_files (waiting_of command.entry) (I.remaining input) (W.contents out.old) (W.contents out.new)
         (E.contents errs.old) (E.contents errs.new) }
     ensures no_errors { (result ≡ Status.Done) ⊎ ((result ≡ Status.Refused) × ShowsNoRefusal (waiting_of command.entry)) → errs.new ≡ errs.old }
     ensures never_misused { result ≡ Status.Misused → ⊥ }
     ensures failed { result ≡ Status.Failed
-        → EndsInWaitingFailure terminal (waiting_of command.entry) (I.remaining input) (W.contents out.old) (W.contents out.new)
+        → EndsInWaitingFailure system_files terminal (waiting_of command.entry) (I.remaining input) (W.contents out.old) (W.contents out.new)
         (E.contents errs.old) (E.contents errs.new) }
 {
     let mut read = FromRead::new(input);
@@ -96,14 +97,14 @@ fn run_over<
     out: &mut W,
     errs: &mut E,
 ) -> Status
-    ensures done { result ≡ Status.Done → WritesFor terminal (waiting_of command.entry) (I.state input.old).coming (W.contents out.old) (W.contents out.new)
+    ensures done { result ≡ Status.Done → WritesFor (F.contents files.old) terminal (waiting_of command.entry) (I.state input.old).coming (W.contents out.old) (W.contents out.new)
         (E.contents errs.old) (E.contents errs.new) }
-    ensures refused { result ≡ Status.Refused → WritesRefusal (waiting_of command.entry) (I.state input.old).coming (W.contents out.old) (W.contents out.new)
+    ensures refused { result ≡ Status.Refused → WritesRefusal (F.contents files.old) (waiting_of command.entry) (I.state input.old).coming (W.contents out.old) (W.contents out.new)
         (E.contents errs.old) (E.contents errs.new) }
     ensures no_errors { (result ≡ Status.Done) ⊎ ((result ≡ Status.Refused) × ShowsNoRefusal (waiting_of command.entry)) → errs.new ≡ errs.old }
     ensures never_misused { result ≡ Status.Misused → ⊥ }
     ensures failed { result ≡ Status.Failed
-        → EndsInWaitingFailure terminal (waiting_of command.entry) (I.state input.old).coming (W.contents out.old) (W.contents out.new)
+        → EndsInWaitingFailure (F.contents files.old) terminal (waiting_of command.entry) (I.state input.old).coming (W.contents out.old) (W.contents out.new)
         (E.contents errs.old) (E.contents errs.new) }
     ensures borrow_kept { (W.failures out.new).borrow ≡ (W.failures out.old).borrow }
 {

@@ -1,6 +1,7 @@
 //! The command `serve`: the switch on its sockets (docs/COMMANDS.md, "serve").
 
-ghost use Rattle.std.specs.Prelude.{◌≡◌, ◌≤◌, ◌⊎◌, IfOk, None, option_map, vec_len};
+ghost use Rattle.std.specs.Prelude.{◌≡◌, ◌≤◌, ◌⊎◌, IfOk, List, None, option_map, vec_len, ℕ};
+ghost use Rattle.config_image.specs.Image.{Group};
 ghost use Rattle.member_group.specs.Charge.{charge_of};
 ghost use Rattle.versions.specs.declared.layout.TheConstants.{CHARGE_LIMIT};
 ghost use Rattle.command_line.specs.Ending.{AppendsBeginning};
@@ -79,8 +80,10 @@ fn report_bind<W: CountedWrite, E: Write>(
     errs: &mut E,
 ) -> Status
     ensures failed { result ≡ Status.Failed }
-    ensures told { EndsServing (W.contents out.old) (W.contents out.new) (E.contents errs.old) (E.contents errs.new) }
-    ensures device_failed { EndsByCause (FailsServing (W.contents out.old) (W.contents out.new) (E.contents errs.old) (E.contents errs.new)) result
+    ensures told { (opening : List Group) (workers : ℕ)
+        → EndsServing opening workers (W.contents out.old) (W.contents out.new) (E.contents errs.old) (E.contents errs.new) }
+    ensures device_failed { (opening : List Group) (workers : ℕ)
+        → EndsByCause (FailsServing opening workers (W.contents out.old) (W.contents out.new) (E.contents errs.old) (E.contents errs.new)) result
         (W.failures out.old) (W.failures out.new) }
 {
     match fault {
@@ -109,8 +112,9 @@ fn serve_on<R: Threads + Wait + Net + Sync, W: CountedWrite, E: Write, L: Write 
     ensures no_errors { result ≡ Status.Done → errs.new ≡ errs.old }
     ensures done_or_failed { (result ≡ Status.Done) ⊎ (result ≡ Status.Failed) }
     ensures failed { result ≡ Status.Failed
-        → EndsServing (W.contents out.old) (W.contents out.new) (E.contents errs.old) (E.contents errs.new) }
-    ensures device_failed { EndsByCause (FailsServing (W.contents out.old) (W.contents out.new) (E.contents errs.old) (E.contents errs.new)) result
+        → EndsServing config workers.count (W.contents out.old) (W.contents out.new) (E.contents errs.old) (E.contents errs.new) }
+    ensures device_failed { EndsByCause
+        (FailsServing config workers.count (W.contents out.old) (W.contents out.new) (E.contents errs.old) (E.contents errs.new)) result
         (W.failures out.old) (W.failures out.new) }
 {
     let Ok(mut log) = Log::new(*config.allocator(), lines) else {
@@ -137,8 +141,9 @@ fn serve_at<R: Threads + Wait + Net + Files + Sync, W: CountedWrite, E: Write, L
     ensures no_errors { result ≡ Status.Done → errs.new ≡ errs.old }
     ensures done_or_failed { (result ≡ Status.Done) ⊎ (result ≡ Status.Failed) }
     ensures failed { result ≡ Status.Failed
-        → EndsServing (W.contents out.old) (W.contents out.new) (E.contents errs.old) (E.contents errs.new) }
-    ensures device_failed { EndsByCause (FailsServing (W.contents out.old) (W.contents out.new) (E.contents errs.old) (E.contents errs.new)) result
+        → EndsServing config workers.count (W.contents out.old) (W.contents out.new) (E.contents errs.old) (E.contents errs.new) }
+    ensures device_failed { EndsByCause
+        (FailsServing config workers.count (W.contents out.old) (W.contents out.new) (E.contents errs.old) (E.contents errs.new)) result
         (W.failures out.old) (W.failures out.new) }
 {
     let (alloc, count) = (*config.allocator(), workers.count);
@@ -158,7 +163,6 @@ fn serve_at<R: Threads + Wait + Net + Files + Sync, W: CountedWrite, E: Write, L
     }
 }
 
-#[tactic(auto, using(crate::proofs::FailureLemmas::fails_unread, crate::proofs::FailureLemmas::fails_serving, crate::proofs::FailureLemmas::named, crate::proofs::FailureLemmas::is_given))]
 /// Runs `serve` with the texts of both addresses, how the front receives, the name of a rules file if there is one, and the
 /// destination of the log's lines.
 pub(crate) fn run_serve<
@@ -180,18 +184,18 @@ pub(crate) fn run_serve<
     errs: &mut E,
 ) -> Status
     ensures done { result ≡ Status.Done
-        → WritesService addresses.entry.0.now addresses.entry.1.now workers.count (option_map (λ name. name.now) file.entry)
+        → WritesService (F.contents files.old) addresses.entry.0.now addresses.entry.1.now workers.count (option_map (λ name. name.now) file.entry)
         (W.contents out.old) (W.contents out.new) }
     ensures refused { result ≡ Status.Refused
-        → RefusesService addresses.entry.0.now addresses.entry.1.now (option_map (λ name. name.now) file.entry)
+        → RefusesService (F.contents files.old) addresses.entry.0.now addresses.entry.1.now (option_map (λ name. name.now) file.entry)
         (W.contents out.old) (W.contents out.new) }
     ensures no_errors { (result ≡ Status.Done) ⊎ ((result ≡ Status.Refused) × (file.entry ≡ None)) → errs.new ≡ errs.old }
     ensures never_misused { result ≡ Status.Misused → ⊥ }
     ensures failed { result ≡ Status.Failed
-        → EndsInServeFailure addresses.entry.0.now addresses.entry.1.now (option_map (λ name. name.now) file.entry)
+        → EndsInServeFailure (F.contents files.old) addresses.entry.0.now addresses.entry.1.now workers.count (option_map (λ name. name.now) file.entry)
         (W.contents out.old) (W.contents out.new) (E.contents errs.old) (E.contents errs.new) }
     ensures device_failed { EndsByOneCause
-        (ServeFails addresses.entry.0.now addresses.entry.1.now (option_map (λ name. name.now) file.entry)
+        (ServeFails (F.contents files.old) addresses.entry.0.now addresses.entry.1.now workers.count (option_map (λ name. name.now) file.entry)
         (W.contents out.old) (W.contents out.new) (E.contents errs.old) (E.contents errs.new)) result
         (F.failures files.old) (F.failures files.new) (W.failures out.old) (W.failures out.new) }
 {

@@ -1,5 +1,7 @@
 use Rattle.command_operating.proofs.CauseLemmas.{reported_once}
-use Rattle.command_operating.proofs.ShowingLemmas.{ended_failed, ended_replaced, fail_told, good_never_failed, nothing_told, told_from}
+use Rattle.command_operating.proofs.LoadingLemmas.{all_begun, ended_replaced}
+use Rattle.command_operating.proofs.PrintingLemmas.{fault_unread, print_ended, print_fails}
+use Rattle.command_operating.proofs.ShowingLemmas.{good_never_failed, nothing_told, told_from}
 use Rattle.command_operating.proofs.loading.replace.Goals as goal
 
 pub returns-clause-printed : goal.returns-clause-printed
@@ -13,13 +15,17 @@ returns-clause-no_errors g c =
 
 pub returns-clause-failed : goal.returns-clause-failed
 returns-clause-failed g c =
-    ended_failed _ g.W.CountedWrite.contents c.args.out.now c.print_replaced-ended.new.out _ _ c.print_replaced-ended.result c.reported.result c.reported.ensures.status
-    c.print_replaced-ended.ensures.done_or_refused c.print_replaced-ended.ensures.unwritten
-    (told_from _ g.E.Write.contents c.args.errs.now c.print_replaced-ended.new.errs _ c.print_replaced-ended.result c.print_replaced-ended.ensures.unshown c.reported.ensures.told)
+    print_ended _ _ _ g.W.CountedWrite.contents c.args.out.now c.print_replaced-ended.new.out _ _ c.print_replaced-ended.result c.reported.result c.reported.ensures.status
+    c.print_replaced-ended.ensures.done_or_refused
+    (print_fails _ _ _ g.W.CountedWrite.contents c.args.out.now c.print_replaced-ended.new.out _ _ c.print_replaced-ended.result c.print_replaced-ended.ensures.fault
+    c.print_replaced-ended.ensures.unwritten (all_begun _ _ _ _ _ c.print_replaced-ended.result c.print_replaced-ended.ensures.begun)
+    (told_from _ g.E.Write.contents c.args.errs.now c.print_replaced-ended.new.errs _ c.print_replaced-ended.result c.print_replaced-ended.ensures.unshown c.reported.ensures.told))
 
 pub returns-clause-device_failed : goal.returns-clause-device_failed
 returns-clause-device_failed g c =
     reported_once _ _ _ c.print_replaced-ended.result c.reported.result c.reported.ensures.status c.reported.ensures.failed
-    (fail_told _ g.W.CountedWrite.contents c.args.out.now c.print_replaced-ended.new.out _ _ c.print_replaced-ended.result c.print_replaced-ended.ensures.unwritten
+    (print_fails _ _ _ g.W.CountedWrite.contents c.args.out.now c.print_replaced-ended.new.out _ _ c.print_replaced-ended.result c.print_replaced-ended.ensures.fault
+    c.print_replaced-ended.ensures.unwritten (all_begun _ _ _ _ _ c.print_replaced-ended.result c.print_replaced-ended.ensures.begun)
     (told_from _ g.E.Write.contents c.args.errs.now c.print_replaced-ended.new.errs _ c.print_replaced-ended.result c.print_replaced-ended.ensures.unshown c.reported.ensures.told))
-    (good_never_failed c.print_replaced-ended.result c.print_replaced-ended.ensures.done_or_refused) c.print_replaced-ended.ensures.device_failed c.print_replaced-ended.ensures.never_unread
+    (good_never_failed c.print_replaced-ended.result c.print_replaced-ended.ensures.done_or_refused) c.print_replaced-ended.ensures.device_failed
+    (fault_unread c.args.asked.1.address c.print_replaced-ended.result c.print_replaced-ended.ensures.fault)

@@ -10,13 +10,13 @@ use Rattle.command_operating.proofs.telling.run_tell.Goals as goal
 pub returns-in-Err-clause-failed : goal.returns-in-Err-clause-failed
 returns-in-Err-clause-failed g c = λ is. (
   c.in-Err.fault,
-  stopped c.in-Some.address c.in-Err.fault (g.E.Write.contents c.tell_words_or_input.new.errs) c.in-Some.ensures c.in-Err.ensures.stopped c.report.ensures.told,
+  stopped c.in-Some.address c.in-Err.fault (g.E.Write.contents c.tell_words_or_input.new.errs) c.in-Some.ensures c.in-Err.ensures.never_unread c.in-Err.ensures.stopped c.report.ensures.told,
 )
 
 pub returns-in-Err-clause-device_failed : goal.returns-in-Err-clause-device_failed
 returns-in-Err-clause-device_failed g c =
     ends_once _ _ _ c.report.result c.in-Err.fault _ _ c.report.ensures.failed
-    (stopped c.in-Some.address c.in-Err.fault (g.E.Write.contents c.tell_words_or_input.new.errs) c.in-Some.ensures c.in-Err.ensures.stopped c.report.ensures.told)
+    (stopped c.in-Some.address c.in-Err.fault (g.E.Write.contents c.tell_words_or_input.new.errs) c.in-Some.ensures c.in-Err.ensures.never_unread c.in-Err.ensures.stopped c.report.ensures.told)
     (both_causes Bool Status c.in-Err.fault _ _ _ _ c.in-Err.ensures.input_failed c.in-Err.ensures.device_failed)
 
 pub returns-in_default-clause-failed : goal.returns-in_default-clause-failed

@@ -14,4 +14,4 @@ returns-in_err-print_screen-clause-begun g c =
     c.from_residual-in_err-print_screen.ensures.1
     (λ is.
     screen_begun c.args.watching.clears c.args.earlier.0 c.args.client.now c.reading.new.client (g.W.CountedWrite.contents c.args.out.now) (g.W.CountedWrite.contents c.print_screen.new.out)
-    c.in_ok-later.later.counters c.millis_between-millis.result c.millis_between-millis.ensures c.in_ok-later.ensures c.print_screen.ensures.beginning)
+    c.in_ok-later.later.counters c.millis_between-millis.result c.millis_between-millis.ensures c.in_ok-later.ensures.read c.print_screen.ensures.beginning)

@@ -12,7 +12,7 @@ use Rattle.command_operating.proofs.watching.print_screens.Goals as goal
 pub loop-screen-init : goal.loop-screen-init
 loop-screen-init g c = (
   none_shown c.args.watching.clears c.args.client.now (g.W.CountedWrite.contents c.args.out.now) c.reading.new.client c.in_ok-earlier.earlier.counters
-      (watches_weaker _ _ _ _ (λ history told are it. it tt) c.in_ok-earlier.ensures),
+      (watches_weaker _ _ _ _ (λ history told are it. it tt) c.in_ok-earlier.ensures.read),
   refl,
 )
 

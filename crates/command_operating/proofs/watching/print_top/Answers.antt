@@ -5,5 +5,5 @@ use Rattle.command_operating.proofs.watching.print_top.Goals as goal
 pub returns-clause-shown : goal.returns-clause-shown
 returns-clause-shown g c =
     on_ok_all c.print_screens.result
-    (λ it. writes_screens _ _ (peer_of c.args.reach.address) c.args.watching.clears c.args.watching.count _ _ c.in_ok-client.ensures it)
+    (λ it. writes_screens _ _ (peer_of c.args.reach.address) c.args.watching.clears c.args.watching.count _ _ c.in-Ok.ensures it)
     c.print_screens.ensures.shown

@@ -23,13 +23,13 @@ returns-in_default-clause-device_failed g c =
 pub returns-in-Err-clause-failed : goal.returns-in-Err-clause-failed
 returns-in-Err-clause-failed g c = λ is. (
   c.in-Err.failure,
-  top_failed _ _ _ _ _ _ _ c.in-Some.address c.in-Err.failure c.in-Some.ensures c.in-Err.ensures.fewer
+  top_failed _ _ _ _ _ _ _ c.in-Some.address c.in-Err.failure c.in-Some.ensures c.in-Err.ensures.fault c.in-Err.ensures.fewer
       (λ unwritten. top_begun _ c.in-Some.address _ _ _ _ c.in-Some.ensures (c.in-Err.ensures.begun unwritten)) c.report.ensures.told,
 )
 
 pub returns-in-Err-clause-device_failed : goal.returns-in-Err-clause-device_failed
 returns-in-Err-clause-device_failed g c =
     ends_in_failure _ _ _ c.report.result c.in-Err.failure c.report.ensures.failed
-    (top_failed _ _ _ _ _ _ _ c.in-Some.address c.in-Err.failure c.in-Some.ensures c.in-Err.ensures.fewer
+    (top_failed _ _ _ _ _ _ _ c.in-Some.address c.in-Err.failure c.in-Some.ensures c.in-Err.ensures.fault c.in-Err.ensures.fewer
     (λ unwritten. top_begun _ c.in-Some.address _ _ _ _ c.in-Some.ensures (c.in-Err.ensures.begun unwritten)) c.report.ensures.told)
     (counts_failure (Unit {0}) c.in-Err.failure _ _ c.in-Err.ensures.device_failed)
