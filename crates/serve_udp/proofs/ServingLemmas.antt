@@ -1,11 +1,13 @@
 -- Failures of the service.
-use Rattle.std.proofs.Common.{◌≡◌, ◌≢◌, Err, IfErr, Ok, Option, List, Result, rules, subst, ℕ}
+use Rattle.std.proofs.Common.{◌≡◌, ◌≢◌, ◌⊎◌, Err, IfErr, Ok, Option, List, Result, inr, rules, subst, ℕ}
 use Rattle.command_line.specs.declared.ending.Failure.{Failure}
 use Rattle.command_line.specs.declared.ending.Failure.TheVariants.{WriteFailed}
 use Rattle.command_line.specs.declared.control_address.ControlAddress.{ControlAddress}
 use Rattle.config_image.specs.Image.{Group}
 use Rattle.dispatch.specs.Batch.{Parts}
-use Rattle.serve_udp.specs.Service.{BeginsCounted, IsServeFailure, WritesReadyOrNothing}
+use Rattle.command_line.specs.Ending.{AppendsBeginning}
+use Rattle.ipv4_fields.specs.declared.endpoint.Endpoint.{Endpoint}
+use Rattle.serve_udp.specs.Service.{BeginsCounted, HasReady, IsServeFailure, WritesReady, WritesReadyOrNothing}
 
 pub write_is_of_serve : (failure : Failure) → failure ≡ WriteFailed → IsServeFailure failure
 write_is_of_serve failure is = search rules
@@ -26,6 +28,12 @@ pub begins_totals : {A : Type 0} (result : Result A Failure) (control : ControlA
     → IfErr result (λ failure. failure ≡ WriteFailed → BeginsCounted control opening AreStarts before after)
 begins_totals (Ok done) control opening AreStarts before after begun = tt
 begins_totals (Err failure) control opening AreStarts before after begun = λ is. begun
+
+-- if that failed, the line `ready` was written whole
+pub has_ready : {A : Type 0} (result : Result A Failure) (Quiet : Type 0) (before between after : Option (List ℕ)) (front : Endpoint) (control : ControlAddress) (text : List ℕ)
+    → WritesReady front control before between → AppendsBeginning between after text → IfErr result (λ failure. failure ≡ WriteFailed → Quiet ⊎ HasReady before after)
+has_ready (Ok done) Quiet before between after front control text ready begun = tt
+has_ready (Err failure) Quiet before between after front control text ready (told, left, appended, whole) = λ is. inr (front, control, between, told, ready, appended)
 
 pub begun_weaker : {A : Type 0} (result : Result A Failure) (P Q : Type 0) → (P → Q) → IfErr result (λ failure. failure ≡ WriteFailed → P)
     → IfErr result (λ failure. failure ≡ WriteFailed → Q)

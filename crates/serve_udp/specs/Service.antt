@@ -58,6 +58,11 @@ WritesReady front control before after = Appends before after (ready_text front 
 abbrev pub WritesReadyOrNothing : Option (List ℕ) → Option (List ℕ) → Type 0
 WritesReadyOrNothing before after = (after ≡ before) ⊎ ((front : Endpoint) × (control : ControlAddress) × WritesReady front control before after)
 
+-- that line, whole, for some two addresses, and then maybe more
+abbrev pub HasReady : Option (List ℕ) → Option (List ℕ) → Type 0
+HasReady before after =
+    (front : Endpoint) × (control : ControlAddress) × (between : Option (List ℕ)) × (more : List ℕ) × WritesReady front control before between × Appends between after more
+
 -- that line, then the line of the totals of jobs that started so, and nothing else; version 0 of their table is this
 -- configuration
 pub record WritesCounted (control : ControlAddress) (opening : List Group) (AreStarts : List Parts → Type 0) (before after : Option (List ℕ)) : Type 0 where

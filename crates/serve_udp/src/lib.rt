@@ -11,7 +11,7 @@ ghost use Rattle.versions.specs.declared.layout.TheConstants.{CHARGE_LIMIT, WORK
 ghost use Rattle.command_streams.specs.Failures.{OutputFails};
 ghost use Rattle.serve_udp.specs.declared.front_turn.TheConstants.{FRONT_TURN};
 ghost use Rattle.serve_udp.specs.declared.jobs.TheConstants.{LIMIT};
-ghost use Rattle.serve_udp.specs.Service.{AreStartsOf, BeginsCounted, BeginsServed, BeginsServedAt, BeginsServedFrom, IsServeFailure, WritesCounted, WritesReadyOrNothing, WritesServed, WritesServedAt, WritesServedFrom};
+ghost use Rattle.serve_udp.specs.Service.{AreStartsOf, BeginsCounted, BeginsServed, BeginsServedAt, BeginsServedFrom, HasReady, IsServeFailure, WritesCounted, WritesReadyOrNothing, WritesServed, WritesServedAt, WritesServedFrom};
 ghost use Rattle.serve_udp.specs.Front.{HasFronts};
 ghost use Rattle.serve_udp.specs.body.Jobs.{AreTotalsOf, HaveNewCounters};
 
@@ -140,6 +140,7 @@ fn serve_intake<
     ensures no_input { IfErr result IsServeFailure }
     ensures not_bound { result ≡ Err Failure.BindFailed → out.new ≡ out.old }
     ensures ready_or_nothing { IfErr result (λ failure. failure ≢ Failure.WriteFailed → WritesReadyOrNothing (W.contents out.old) (W.contents out.new)) }
+    ensures quiet { IfErr result (λ failure. failure ≡ Failure.WriteFailed → (log.new ≡ log.old) ⊎ HasReady (W.contents out.old) (W.contents out.new)) }
     ensures begun { IfErr result (λ failure. failure ≡ Failure.WriteFailed → BeginsCounted control.entry config (AreStartsOf intake.entry.sources.items) (W.contents out.old) (W.contents out.new)) }
     ensures device_failed { OutputFails result (W.failures out.old) (W.failures out.new) }
 {
@@ -180,6 +181,7 @@ pub fn serve_bound<R: Threads + Wait + Net + Sync, G: Gate + Sync, W: CountedWri
     ensures no_input { IfErr result IsServeFailure }
     ensures not_bound { result ≡ Err Failure.BindFailed → out.new ≡ out.old }
     ensures ready_or_nothing { IfErr result (λ failure. failure ≢ Failure.WriteFailed → WritesReadyOrNothing (W.contents out.old) (W.contents out.new)) }
+    ensures quiet { IfErr result (λ failure. failure ≡ Failure.WriteFailed → (log.new ≡ log.old) ⊎ HasReady (W.contents out.old) (W.contents out.new)) }
     ensures begun { IfErr result (λ failure. failure ≡ Failure.WriteFailed → BeginsServedAt sockets.entry.place config workers (W.contents out.old) (W.contents out.new)) }
     ensures device_failed { OutputFails result (W.failures out.old) (W.failures out.new) }
 {

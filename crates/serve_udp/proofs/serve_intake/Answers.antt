@@ -1,4 +1,4 @@
-use Rattle.std.proofs.Common.{◌≡◌, ◌∙◌, None, [], ap, map, refl, rules}
+use Rattle.std.proofs.Common.{◌≡◌, ◌∙◌, None, [], ap, inl, map, refl, rules}
 use Rattle.std.proofs.lemmas.List.Elements.{All-map, All-nil, All-weaker}
 use Rattle.dispatch.specs.Counted.{IsNew, counters_of}
 use Rattle.dispatch.specs.Workers.{parts_of_job}
@@ -8,7 +8,7 @@ use Rattle.serve_udp.specs.Service.{AreStartsOf, HasSilentOutbox, ready_begun, t
 use Rattle.serve_udp.specs.declared.jobs.TheConstants.{LIMIT}
 use Rattle.serve_udp.specs.declared.sockets.TheConstants.{LONGEST_DATAGRAM}
 use Rattle.serve_udp.proofs.CountedLemmas.{sources_of_starts}
-use Rattle.serve_udp.proofs.ServingLemmas.{begins_totals, only_writes, only_writes_end}
+use Rattle.serve_udp.proofs.ServingLemmas.{begins_totals, has_ready, only_writes, only_writes_end}
 use Rattle.serve_udp.proofs.serve_intake.Goals as goal
 
 pub returns-clause-not_bound : goal.returns-clause-not_bound
@@ -84,3 +84,13 @@ returns-in_err-totals-clause-ready_or_nothing g c = search rules
 
 pub returns-in_err-totals-clause-served : goal.returns-in_err-totals-clause-served
 returns-in_err-totals-clause-served g c = search rules
+
+pub returns-clause-quiet : goal.returns-clause-quiet
+returns-clause-quiet g c =
+    has_ready c.write_totals.result _ _ (g.W.CountedWrite.contents c.write_ready.new.out) _ _ _ _ c.in_default.ensures.written c.write_totals.ensures.beginning
+
+pub returns-in_err-jobs-clause-quiet : goal.returns-in_err-jobs-clause-quiet
+returns-in_err-jobs-clause-quiet g c = search rules
+
+pub returns-in_err-totals-clause-quiet : goal.returns-in_err-totals-clause-quiet
+returns-in_err-totals-clause-quiet g c = search rules
