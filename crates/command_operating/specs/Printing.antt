@@ -1,5 +1,5 @@
 -- What a command that asks a switch had printed if it fails, and why it may fail (docs/COMMANDS.md, "Failures").
-use Rattle.std.specs.Prelude.{◌≡◌, ◌≢◌, List, Option, Some, ℕ}
+use Rattle.std.specs.Prelude.{◌≡◌, ◌≢◌, List, Option, ℕ}
 use Rattle.std.specs.Io.KnownBytes.{Appends}
 use Rattle.clap.specs.Words.{Text}
 use Rattle.command_line.specs.ControlAddress.{SpellsControlAddress}
