@@ -45,3 +45,8 @@ pub begun_between : {A : Type 0} (result : Result A Failure) (P : Option (List �
 begun_between result P before before' after after' first last begun =
     subst (λ bytes. IfErr result (λ failure. failure ≡ WriteFailed → P before' bytes)) last
     (subst (λ bytes. IfErr result (λ failure. failure ≡ WriteFailed → P bytes after)) first begun)
+
+-- a failure that is not that of a write leaves nothing to say of one
+pub never_written : {A : Type 0} (result : Result A Failure) (Said : Type 0) → IfErr result (λ failure. failure ≢ WriteFailed) → IfErr result (λ failure. failure ≡ WriteFailed → Said)
+never_written {A = A} (Ok done) Said not = not
+never_written {A = A} (Err failure) Said not = λ is. absurd (not is)

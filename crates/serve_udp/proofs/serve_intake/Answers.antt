@@ -1,4 +1,4 @@
-use Rattle.std.proofs.Common.{◌≡◌, ◌∙◌, None, [], ap, inl, map, refl, rules}
+use Rattle.std.proofs.Common.{◌≡◌, ◌∙◌, None, [], ap, map, refl, rules}
 use Rattle.std.proofs.lemmas.List.Elements.{All-map, All-nil, All-weaker}
 use Rattle.dispatch.specs.Counted.{IsNew, counters_of}
 use Rattle.dispatch.specs.Workers.{parts_of_job}
@@ -8,7 +8,7 @@ use Rattle.serve_udp.specs.Service.{AreStartsOf, HasSilentOutbox, ready_begun, t
 use Rattle.serve_udp.specs.declared.jobs.TheConstants.{LIMIT}
 use Rattle.serve_udp.specs.declared.sockets.TheConstants.{LONGEST_DATAGRAM}
 use Rattle.serve_udp.proofs.CountedLemmas.{sources_of_starts}
-use Rattle.serve_udp.proofs.ServingLemmas.{begins_totals, has_ready, only_writes, only_writes_end}
+use Rattle.serve_udp.proofs.ServingLemmas.{begins_totals, has_ready, never_written, only_writes, only_writes_end}
 use Rattle.serve_udp.proofs.serve_intake.Goals as goal
 
 pub returns-clause-not_bound : goal.returns-clause-not_bound
@@ -93,4 +93,4 @@ pub returns-in_err-jobs-clause-quiet : goal.returns-in_err-jobs-clause-quiet
 returns-in_err-jobs-clause-quiet g c = search rules
 
 pub returns-in_err-totals-clause-quiet : goal.returns-in_err-totals-clause-quiet
-returns-in_err-totals-clause-quiet g c = search rules
+returns-in_err-totals-clause-quiet g c = never_written _ _ (search rules)
