@@ -58,6 +58,12 @@ MOST_FAILURES = 2 ^ 64 - 1
 abbrev pub outbox_with : ℕ → Option (List Sent) → OutboxValue
 outbox_with failures taken = record { failures = failures; taken = if failures == MOST_FAILURES then None else taken }
 
+-- an egress was called once, if it is known how often it was; from some call on it may be unknown
+abbrev pub CountsCall : Option ℕ → Option ℕ → Type 0
+CountsCall before None = Unit {0}
+CountsCall None (Some after) = ⊥
+CountsCall (Some before) (Some after) = after ≡ suc before
+
 -- the datagrams that an egress took whole, whose call took this many bytes
 abbrev pub whole_of : {E : Type 0} → Result ℕ E → Endpoint → List ℕ → List Sent
 whole_of (Ok size) to bytes = if size == length bytes then record { to = to; bytes = bytes } ∷ [] else []

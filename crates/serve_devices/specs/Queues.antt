@@ -1,5 +1,6 @@
 -- What contracts see of a worker's queue, and of the queues of all workers.
-use Rattle.std.specs.Prelude.{◌%◌, ◌+◌, ◌≡◌, ◌⊎◌, IsSome, List, Some, false, length, slice_get, slice_set, ℕ}
+use Rattle.std.specs.Prelude.{◌%◌, ◌+◌, ◌≡◌, ◌⊎◌, IsSome, List, None, Some, length, slice_get, slice_set, ℕ}
+use Rattle.crossbeam_channel.specs.Ends.{receives_on}
 use Rattle.serve_devices.specs.Channel.{AreOneChannel, HasPut, IsSameReceiver, IsSameSender, put_by, taken_from}
 use Rattle.serve_devices.specs.Ingress.{Receive}
 use Rattle.serve_devices.specs.declared.queue_ingress.QueueIngress.{QueueIngress}
@@ -9,17 +10,23 @@ use Rattle.serve_devices.specs.declared.worker_queues.WorkerQueue.{WorkerQueue}
 abbrev pub put_for : WorkerQueue → List Receive
 put_for queue = put_by queue.arriving
 
--- its worker is known to have ended
-abbrev pub HasEnded : WorkerQueue → Type 0
-HasEnded queue = queue.takes_more ≡ false
+-- its worker is not known to have ended
+abbrev pub IsOpen : WorkerQueue → Type 0
+IsOpen queue = queue.ended ≡ None
 
--- this receive was put for the worker; or none was, since the worker has ended, or since memory for a datagram was refused
+-- its worker is known to have ended: a put said so
+abbrev pub HasEnded : WorkerQueue → Type 0
+HasEnded queue = IsSome queue.ended
+
+-- this receive was put for the worker; or none was, since the worker has ended, or since memory for a datagram was refused. That the worker
+-- has ended becomes known only if the receive was not put
 abbrev pub Arrives : WorkerQueue → WorkerQueue → Receive → Type 0
 Arrives before after receive =
-    HasPut before.arriving after.arriving receive ⊎ (IsSameSender before.arriving after.arriving × (HasEnded after ⊎ IsSome receive))
+    (HasPut before.arriving after.arriving receive × (after.ended ≡ before.ended))
+    ⊎ (IsSameSender before.arriving after.arriving × (HasEnded after ⊎ (IsSome receive × (after.ended ≡ before.ended))))
 
 abbrev pub IsSameQueue : WorkerQueue → WorkerQueue → Type 0
-IsSameQueue before after = IsSameSender before.arriving after.arriving
+IsSameQueue before after = IsSameSender before.arriving after.arriving × (after.ended ≡ before.ended)
 
 module _ {R : Type 0} where
   -- what the end of a queue has given, in order
@@ -28,6 +35,10 @@ module _ {R : Type 0} where
 
   abbrev pub AreOneQueue : QueueIngress R → WorkerQueue → Type 0
   AreOneQueue ingress queue = AreOneChannel queue.arriving ingress.arriving
+
+  -- the end of the same queue, whatever it has given
+  abbrev pub IsSameEnd : QueueIngress R → QueueIngress R → Type 0
+  IsSameEnd before after = receives_on after.arriving.end ≡ receives_on before.arriving.end
 
   abbrev pub IsSameIngress : QueueIngress R → QueueIngress R → Type 0
   IsSameIngress before after = IsSameReceiver before.arriving after.arriving

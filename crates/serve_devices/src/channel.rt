@@ -1,6 +1,6 @@
 //! A bounded channel from one thread to another. Once it is made it takes no lock and no memory.
 
-ghost use Rattle.std.specs.Prelude.{◌≡◌, ◌⊎◌, MatchOption, false, true};
+ghost use Rattle.std.specs.Prelude.{◌≡◌, ◌⊎◌, MatchOption, OnErr, OnOk, true};
 ghost use Rattle.crossbeam_channel.specs.Claims.{IsSeatAt, view};
 ghost use Rattle.crossbeam_channel.specs.Ends.{receives_on, sends_on};
 
@@ -93,6 +93,10 @@ impl<T> Lesson<T, Share<T>> for Rest {
     ghost fact = { λ v items. v.put ≡ v.taken ++ items };
 }
 
+/// The other end of a channel is gone. Only a put that failed returns one.
+#[derive(Clone, Copy)]
+pub struct Gone(());
+
 /// The end of a channel into which values are put. Contracts see what was put.
 #[derive(Drop)]
 pub struct ChannelSender<T: Drop> {
@@ -114,14 +118,15 @@ pub struct ChannelReceiver<T: Drop> {
 impl<T: Drop> ChannelSender<T> {
     ghost use Rattle.serve_devices.specs.Channel.{HasPut, IsSameSender};
 
-    /// Puts a value in, and waits for a place. False if the other end is gone; then the value is dropped.
-    pub fn put<R: Wait>(&mut self, rt: &R, value: T) -> bool
-        ensures put { result ≡ true → HasPut self.old self.new value }
-        ensures kept { result ≡ false → IsSameSender self.old self.new }
+    /// Puts a value in, and waits for a place. If the other end is gone, the value is dropped.
+    pub fn put<R: Wait>(&mut self, rt: &R, value: T) -> Result<(), Gone>
+        ensures put { OnOk result (HasPut self.old self.new value) }
+        ensures kept { OnErr result (IsSameSender self.old self.new) }
     {
-        self.end
-            .send_as::<Puts, R>(rt, &mut self.pass, value)
-            .is_ok()
+        match self.end.send_as::<Puts, R>(rt, &mut self.pass, value) {
+            Ok(()) => Ok(()),
+            Err(_) => Err(Gone(())),
+        }
     }
 
     /// Puts a value in if there is a place for it, and otherwise drops it.

@@ -1,8 +1,8 @@
 //! Sending datagrams (docs/SWITCH.md, "Devices of a server").
 
-ghost use Rattle.std.specs.Prelude.{◌≡◌, List, Option};
+ghost use Rattle.std.specs.Prelude.{◌≡◌, List, Option, ℕ};
 ghost use Rattle.dispatch.specs.Device.{Sent, Takes};
-ghost use Rattle.serve_devices.specs.Devices.{whole_of};
+ghost use Rattle.serve_devices.specs.Devices.{CountsCall, whole_of};
 
 use dispatch::Failed;
 use ipv4_fields::Endpoint;
@@ -16,13 +16,17 @@ use std::time::Duration;
 // The time that a send waits before the flag is read again, in milliseconds.
 const SEND_TURN: u64 = 50;
 
-/// A device that sends datagrams. Contracts see what was sent, if it is known, without the sends that failed or were cut.
+/// A device that sends datagrams. Contracts see what was sent, without the sends that failed or were cut, and how often it was
+/// called, each if it is known.
 pub trait Egress {
     ghost taken: { Self → Option (List Sent) };
 
+    ghost calls: { Self → Option ℕ };
+
     /// Sends the bytes as one datagram, and returns how many of them were taken.
     fn transmit(&mut self, to: Endpoint, bytes: &[u8]) -> Result<usize, Failed>
-        ensures sent_once { Takes (taken self.old) (taken self.new) (whole_of result to bytes.now) };
+        ensures sent_once { Takes (taken self.old) (taken self.new) (whole_of result to bytes.now) }
+        ensures called { CountsCall (calls self.old) (calls self.new) };
 }
 
 /// A UDP socket to send by. The datagrams that it took are not known.
@@ -66,6 +70,8 @@ impl<'a, R: Wait> Egress for SocketEgress<'a, R> {
     ghost use Rattle.std.specs.Prelude.{None};
 
     ghost taken = { λ _. None };
+
+    ghost calls = { λ _. None };
 
     fn transmit(&mut self, to: Endpoint, bytes: &[u8]) -> Result<usize, Failed> {
         for _ in self.rt.forever() {

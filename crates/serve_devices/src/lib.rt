@@ -21,7 +21,7 @@ mod socket_outbox;
 mod worker_queues;
 mod worker_source;
 
-pub use channel::{ChannelReceiver, ChannelSender, open_channel, taken_first};
+pub use channel::{ChannelReceiver, ChannelSender, Gone, open_channel, taken_first};
 pub use egress::{Egress, SocketEgress};
 pub use ingress::Ingress;
 pub use member_outbox::{LOG_ROOM, MemberOutbox, SharedCounts};

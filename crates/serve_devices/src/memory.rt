@@ -64,9 +64,12 @@ impl Ingress for Receives {
 
 /// A send past the room fails.
 impl Egress for Sends {
+    ghost use Rattle.std.specs.Prelude.{◌+◌, length, option_map};
     ghost use Rattle.dispatch.specs.Memory.{told};
 
     ghost taken = { λ s. told s };
+
+    ghost calls = { λ s. option_map (λ sent. length sent + s.failures) (told s) };
 
     fn transmit(&mut self, to: Endpoint, bytes: &[u8]) -> Result<usize, Failed> {
         self.send(to, bytes)?;

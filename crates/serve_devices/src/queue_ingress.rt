@@ -74,17 +74,22 @@ impl<'a, R: Wait> QueueIngress<'a, R> {
 impl<'a, R: Wait> Ingress for QueueIngress<'a, R> {
     ghost use Rattle.std.specs.Prelude.{None, Some};
     ghost use Rattle.serve_devices.specs.Channel.{taken_from};
+    ghost use Rattle.serve_devices.specs.Queues.{IsSameEnd};
 
     ghost coming = { λ _. None };
 
     ghost past = { λ q. Some (taken_from q.arriving) };
 
-    fn receive(&mut self, buf: &mut [u8]) -> Option<Result<usize, Failed>> {
+    fn receive(&mut self, buf: &mut [u8]) -> Option<Result<usize, Failed>>
+        ensures same_queue { IsSameEnd self.old self.new }
+    {
         let received = self.arriving.take(self.rt)?;
         Some(self.open(received, buf))
     }
 
-    fn try_receive(&mut self, buf: &mut [u8]) -> Option<Result<usize, Failed>> {
+    fn try_receive(&mut self, buf: &mut [u8]) -> Option<Result<usize, Failed>>
+        ensures same_queue { IsSameEnd self.old self.new }
+    {
         let received = self.arriving.poll(self.rt)?;
         Some(self.open(received, buf))
     }

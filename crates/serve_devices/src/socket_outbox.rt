@@ -2,7 +2,7 @@
 
 ghost use Rattle.std.specs.Prelude.{◌≡◌};
 ghost use Rattle.dispatch.specs.Device.{Takes, taken_by};
-ghost use Rattle.serve_devices.specs.Devices.{outbox_with};
+ghost use Rattle.serve_devices.specs.Devices.{CountsCall, outbox_with};
 
 use crate::egress::Egress;
 use dispatch::{Failed, Outbox};
@@ -28,9 +28,10 @@ impl<E: Egress + Drop> Model for SocketOutbox<E> {
     ghost view = { λ o. outbox_with o.failures (E.taken o.egress) };
 }
 
-// Sends. A datagram that was not taken whole is a send that failed.
+// Sends, by one call. A datagram that was not taken whole is a send that failed.
 fn transmit_whole<E: Egress>(egress: &mut E, to: Endpoint, bytes: &[u8]) -> Result<(), Failed>
-    ensures { Takes (E.taken egress.old) (E.taken egress.new) (taken_by result to bytes.now) }
+    ensures sent { Takes (E.taken egress.old) (E.taken egress.new) (taken_by result to bytes.now) }
+    ensures called { CountsCall (E.calls egress.old) (E.calls egress.new) }
 {
     match egress.transmit(to, bytes) {
         Ok(size) if size == bytes.len() => Ok(()),

@@ -3,11 +3,11 @@
 ghost use Rattle.std.specs.Prelude.{◌≡◌, ◌<◌, ◌⊎◌, IfOk, IsErr, IsSome, OnOk, [], vec_len};
 ghost use Rattle.std.specs.Option.{option_map};
 ghost use Rattle.serve_devices.specs.Channel.{HasPut, IsFirstOf};
-ghost use Rattle.serve_devices.specs.Queues.{AreOneQueue, Arrives, HandsOn, HasEnded, IsSameIngress, IsSameQueue, given_by, next_turn, put_for};
+ghost use Rattle.serve_devices.specs.Queues.{AreOneQueue, Arrives, HandsOn, HasEnded, IsOpen, IsSameIngress, IsSameQueue, given_by, next_turn, put_for};
 ghost use Rattle.serve_devices.specs.declared.member_outbox.TheConstants.{LOG_ROOM};
 ghost use Rattle.serve_devices.specs.declared.worker_source.TheConstants.{RECEIVE_LIMIT};
 
-use crate::channel::{ChannelReceiver, ChannelSender, open_channel, taken_first};
+use crate::channel::{ChannelReceiver, ChannelSender, Gone, open_channel, taken_first};
 use crate::queue_ingress::QueueIngress;
 use crate::received::Received;
 use crate::worker_source::RECEIVE_LIMIT;
@@ -30,8 +30,8 @@ pub fn limits_as_numbers()
 pub struct WorkerQueue {
     arriving: ChannelSender<Received>,
     opened: ChannelReceiver<Received>,
-    // Its worker takes more.
-    takes_more: bool,
+    // What the put said that found that its worker has ended.
+    ended: Option<Gone>,
 }
 
 /// Opens a worker's queue, of `QUEUE_PLACES` places each way, with its end. Takes its memory from the allocator.
@@ -40,6 +40,7 @@ pub fn open_queue<R: Wait>(
     alloc: Global,
 ) -> Result<(QueueIngress<'_, R>, WorkerQueue), AllocError>
     ensures one_queue { IfOk result (λ ends. AreOneQueue ends.0 ends.1) }
+    ensures open { IfOk result (λ ends. IsOpen ends.1) }
     ensures none_put { IfOk result (λ ends. put_for ends.1 ≡ []) }
     ensures none_given { IfOk result (λ ends. given_by ends.0 ≡ []) }
 {
@@ -48,7 +49,7 @@ pub fn open_queue<R: Wait>(
     let queue = WorkerQueue {
         arriving,
         opened,
-        takes_more: true,
+        ended: None,
     };
     Ok((QueueIngress::new(rt, at_worker, from_worker), queue))
 }
@@ -67,13 +68,13 @@ pub fn given_first<'a, R: Wait>(
     let WorkerQueue {
         arriving,
         opened,
-        takes_more,
+        ended,
     } = queue;
     let (ingress, arriving) = ingress.beside(arriving);
     let queue = WorkerQueue {
         arriving,
         opened,
-        takes_more,
+        ended,
     };
     (ingress, queue)
 }
@@ -82,6 +83,7 @@ impl WorkerQueue {
     // A receive that was opened, or a new one.
     fn spare<R: Wait>(&mut self, rt: &R, alloc: Global) -> Received
         ensures arriving { self.new.arriving ≡ self.old.arriving }
+        ensures ended { self.new.ended ≡ self.old.ended }
     {
         match self.opened.poll(rt) {
             Some(received) => received,
@@ -99,6 +101,7 @@ impl WorkerQueue {
         ensures received { IfOk result (λ received. received ≡ option_map (λ bytes. bytes.now) datagram.entry) }
         ensures refused { IsErr result → IsSome (option_map (λ bytes. bytes.now) datagram.entry) }
         ensures arriving { self.new.arriving ≡ self.old.arriving }
+        ensures ended { self.new.ended ≡ self.old.ended }
     {
         let mut received = self.spare(rt, alloc);
         match datagram {
@@ -118,13 +121,15 @@ impl WorkerQueue {
         ensures arrives { Arrives self.old self.new (option_map (λ bytes. bytes.now) datagram.entry) }
         ensures put { OnOk result (HasPut self.old.arriving self.new.arriving (option_map (λ bytes. bytes.now) datagram.entry) ⊎ HasEnded self.new) }
     {
-        if !self.takes_more {
+        if self.ended.is_some() {
             return Ok(());
         }
         let Ok(received) = self.received(rt, alloc, datagram) else {
             return Err(AllocError);
         };
-        self.takes_more = self.arriving.put(rt, received);
+        if let Err(gone) = self.arriving.put(rt, received) {
+            self.ended = Some(gone);
+        }
         Ok(())
     }
 }

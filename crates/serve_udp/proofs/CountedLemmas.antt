@@ -10,6 +10,7 @@ use Rattle.dispatch.specs.Counted.{IsCounted}
 use Rattle.dispatch.specs.Device.{SourceValue}
 use Rattle.dispatch.specs.declared.kind.Totals.{Totals}
 use Rattle.serve_devices.specs.Devices.{WorkerSourceValue, source_of}
+use Rattle.serve_devices.specs.Ingress.{Receive}
 use Rattle.serve_udp.specs.Service.{AreServiceStarts, AreStartsOf, BeginsCounted, BeginsServedAt, HasSilentDevices, HasSilentOutbox, WritesCounted, WritesServedAt, ready_begun, totals_begun}
 use Rattle.serve_udp.specs.body.Jobs.{AreNewSources, IsNewSource}
 use Rattle.serve_udp.specs.declared.jobs.TheConstants.{LIMIT}
@@ -43,47 +44,47 @@ silent_each (start ∷ rest) silent outboxes =
     (All-head (λ (s : SourceValue). s ≡ silent_source) start.source sources silent, All-head HasSilentOutbox start rest outboxes)
     (silent_each rest (All-tail (λ (s : SourceValue). s ≡ silent_source) start.source sources silent) (All-tail HasSilentOutbox start rest outboxes))
 
-silent_starts : (workers : ℕ) (sources : List WorkerSourceValue) (starts : List Parts) → AreNewSources workers sources → AreStartsOf sources starts
-    → AreServiceStarts workers starts
-silent_starts workers sources starts new are = (
+silent_starts : (past : Option (List Receive)) (workers : ℕ) (sources : List WorkerSourceValue) (starts : List Parts)
+    → AreNewSources past workers sources → AreStartsOf sources starts → AreServiceStarts workers starts
+silent_starts past workers sources starts new are = (
   sym (length-map starts (λ (start : Parts). start.source))
       ∙ (ap length are.their_sources ∙ (length-map (reverse sources) source_of ∙ (length-reverse sources ∙ new.0))),
   silent_each starts
       (All-same (λ (s : SourceValue). s ≡ silent_source) (map (λ (start : Parts). start.source) starts) (map source_of (reverse sources)) are.their_sources
       (All-map (λ (s : SourceValue). s ≡ silent_source) source_of (reverse sources)
       (all_reversed (λ (s : WorkerSourceValue). source_of s ≡ silent_source) sources
-      (All-weaker IsNewSource (λ (s : WorkerSourceValue). source_of s ≡ silent_source) (λ s is. ap source_of is) sources new.1))))
+      (All-weaker (IsNewSource past) (λ (s : WorkerSourceValue). source_of s ≡ silent_source) (λ s is. ap source_of is) sources new.1))))
       are.silent_outboxes,
 )
 
 -- so many of them are all that is known
-silent_counted : (opening : List Group) (workers : ℕ) (sources : List WorkerSourceValue) (totals : Totals) → AreNewSources workers sources
-    → IsCounted opening LONGEST_DATAGRAM LIMIT (AreStartsOf sources) totals → IsCounted opening LONGEST_DATAGRAM LIMIT (AreServiceStarts workers) totals
-silent_counted opening workers sources totals new counted = record {
+silent_counted : (past : Option (List Receive)) (opening : List Group) (workers : ℕ) (sources : List WorkerSourceValue) (totals : Totals)
+    → AreNewSources past workers sources → IsCounted opening LONGEST_DATAGRAM LIMIT (AreStartsOf sources) totals → IsCounted opening LONGEST_DATAGRAM LIMIT (AreServiceStarts workers) totals
+silent_counted past opening workers sources totals new counted = record {
   versions = counted.versions;
   table = counted.table;
   starts = counted.starts;
   ends = counted.ends;
   new_workers = counted.new_workers;
   new_counters = counted.new_counters;
-  are_starts = silent_starts workers sources counted.starts new counted.are_starts;
+  are_starts = silent_starts past workers sources counted.starts new counted.are_starts;
   run_to_the_end = counted.run_to_the_end;
   sum_exact = counted.sum_exact;
 }
 
-pub silent_served : (control : ControlAddress) (opening : List Group) (workers : ℕ) (sources : List WorkerSourceValue) (before after : Option (List ℕ))
-    → AreNewSources workers sources → WritesCounted control opening (AreStartsOf sources) before after → WritesServedAt control opening workers before after
-silent_served control opening workers sources before after new written = record {
+pub silent_served : (past : Option (List Receive)) (control : ControlAddress) (opening : List Group) (workers : ℕ) (sources : List WorkerSourceValue)
+    (before after : Option (List ℕ)) → AreNewSources past workers sources → WritesCounted control opening (AreStartsOf sources) before after → WritesServedAt control opening workers before after
+silent_served past control opening workers sources before after new written = record {
   front = written.front;
   totals = written.totals;
   between = written.between;
   ready = written.ready;
-  is_counted = silent_counted opening workers sources written.totals new written.is_counted;
+  is_counted = silent_counted past opening workers sources written.totals new written.is_counted;
   totals_line = written.totals_line;
 }
 
-pub silent_begun : (control : ControlAddress) (opening : List Group) (workers : ℕ) (sources : List WorkerSourceValue) (before after : Option (List ℕ))
-    → AreNewSources workers sources → BeginsCounted control opening (AreStartsOf sources) before after → BeginsServedAt control opening workers before after
-silent_begun control opening workers sources before after new (ready_begun front begun) = ready_begun front begun
-silent_begun control opening workers sources before after new (totals_begun front totals between ready counted begun) =
-    totals_begun front totals between ready (silent_counted opening workers sources totals new counted) begun
+pub silent_begun : (past : Option (List Receive)) (control : ControlAddress) (opening : List Group) (workers : ℕ) (sources : List WorkerSourceValue)
+    (before after : Option (List ℕ)) → AreNewSources past workers sources → BeginsCounted control opening (AreStartsOf sources) before after → BeginsServedAt control opening workers before after
+silent_begun past control opening workers sources before after new (ready_begun front begun) = ready_begun front begun
+silent_begun past control opening workers sources before after new (totals_begun front totals between ready counted begun) =
+    totals_begun front totals between ready (silent_counted past opening workers sources totals new counted) begun

@@ -1,5 +1,5 @@
 -- Jobs that are made one after the other.
-use Rattle.std.proofs.Common.{◌≡◌, ◌∙◌, ◌+◌, ◌++◌, ◌∷◌, List, None, Some, [], ap, append_assoc, arith, length, length-append, reverse, subst, sym, ℕ}
+use Rattle.std.proofs.Common.{◌≡◌, ◌∙◌, ◌+◌, ◌++◌, ◌∷◌, List, None, Option, Some, [], ap, append_assoc, arith, length, length-append, reverse, subst, sym, ℕ}
 use Rattle.std.specs.List.{All}
 use Rattle.std.proofs.lemmas.List.{map-append, reverse-append}
 use Rattle.std.proofs.lemmas.List.Elements.{All-nil, All-pop, All-push, All-same}
@@ -10,20 +10,21 @@ use Rattle.dispatch.specs.declared.worker_job.Job.{Job}
 use Rattle.dispatch.specs.Counted.{IsNew, IsNewWorker}
 use Rattle.read_section.specs.Worker.{WorkerValue}
 use Rattle.serve_devices.specs.Devices.{MemberOutboxValue, WorkerSourceValue, new_outbox}
+use Rattle.serve_devices.specs.Ingress.{Receive}
 use Rattle.serve_udp.specs.Service.{HasRoom}
 use Rattle.serve_udp.specs.body.Jobs.{AreMade, AreNewSources, IsNewSource, sources_of}
 
-pub no_source : (sources : List WorkerSourceValue) → sources ≡ [] → AreNewSources 0 sources
-no_source sources none = (ap length none, All-same IsNewSource sources [] none (All-nil IsNewSource))
+pub no_source : (past : Option (List Receive)) (sources : List WorkerSourceValue) → sources ≡ [] → AreNewSources past 0 sources
+no_source past sources none = (ap length none, All-same (IsNewSource past) sources [] none (All-nil (IsNewSource past)))
 
-pub one_source : (many : ℕ) (sources sources' : List WorkerSourceValue) (source : WorkerSourceValue) → sources' ≡ sources ++ source ∷ []
-    → IsNewSource source → AreNewSources many sources → AreNewSources (many + 1) sources'
-one_source many sources sources' source pushed new all =
+pub one_source : (past : Option (List Receive)) (many : ℕ) (sources sources' : List WorkerSourceValue) (source : WorkerSourceValue)
+    → sources' ≡ sources ++ source ∷ [] → IsNewSource past source → AreNewSources past many sources → AreNewSources past (many + 1) sources'
+one_source past many sources sources' source pushed new all =
     let more = ap length pushed in
     let one = length-append sources (source ∷ []) in
     let before = all.0 in (
       omega (arith, more, one, before),
-      All-same IsNewSource sources' (sources ++ source ∷ []) pushed (All-push IsNewSource sources source all.1 new),
+      All-same (IsNewSource past) sources' (sources ++ source ∷ []) pushed (All-push (IsNewSource past) sources source all.1 new),
     )
 
 module _ {source : Source.Ghosts WorkerSourceValue} {outbox : Outbox.Ghosts MemberOutboxValue} where

@@ -31,9 +31,9 @@ begins_totals (Err failure) control opening AreStarts before after begun = λ is
 
 -- if that failed, the line `ready` was written whole
 pub has_ready : {A : Type 0} (result : Result A Failure) (Quiet : Type 0) (before between after : Option (List ℕ)) (front : Endpoint) (control : ControlAddress) (text : List ℕ)
-    → WritesReady front control before between → AppendsBeginning between after text → IfErr result (λ failure. failure ≡ WriteFailed → Quiet ⊎ HasReady before after)
+    → WritesReady front control before between → AppendsBeginning between after text → IfErr result (λ failure. failure ≡ WriteFailed → Quiet ⊎ HasReady front control before after)
 has_ready (Ok done) Quiet before between after front control text ready begun = tt
-has_ready (Err failure) Quiet before between after front control text ready (told, left, appended, whole) = λ is. inr (front, control, between, told, ready, appended)
+has_ready (Err failure) Quiet before between after front control text ready (told, left, appended, whole) = λ is. inr (between, told, ready, appended)
 
 pub begun_weaker : {A : Type 0} (result : Result A Failure) (P Q : Type 0) → (P → Q) → IfErr result (λ failure. failure ≡ WriteFailed → P)
     → IfErr result (λ failure. failure ≡ WriteFailed → Q)

@@ -1,22 +1,23 @@
 -- What contracts see of a turn of the front: its receives, and what was handed to the workers (docs/COMMANDS.md, "serve").
 use Rattle.std.specs.Prelude.{◌≡◌, ◌++◌, ◌<◌, ◌≤◌, ◌∷◌, Bool, List, None, Option, Some, [], false, length, map, take, true, ℕ}
 use Rattle.dispatch.specs.Device.{Takes}
-use Rattle.serve_devices.specs.Ingress.{Receive}
+use Rattle.serve_devices.specs.Ingress.{Receive, cut_to}
 use Rattle.serve_devices.specs.Queues.{HandsOn, QueuesValue, next_turn}
 use Rattle.serve_udp.specs.declared.front_turn.Arrived.{Arrived}
 use Rattle.serve_udp.specs.declared.front_turn.Arrived.TheVariants.{Datagram, Failed, Nothing}
 use Rattle.serve_udp.specs.declared.front_turn.TheConstants.{FRONT_TURN}
 
--- a receive of the front: a datagram or a failure, or nothing had come
+-- a receive of the front: a datagram, whole, or a failure; or nothing had come
 pub data FrontEvent : Type 0 where
   came : Receive → FrontEvent
   none_came : FrontEvent
 
--- a receive that found this, and whose buffer then has these bytes
-abbrev pub came_by : Arrived → List ℕ → List FrontEvent
-came_by (Datagram size) buffer = came (Some (take size buffer)) ∷ []
-came_by Nothing buffer = none_came ∷ []
-came_by Failed buffer = came None ∷ []
+-- a receive found this, and its buffer then has these bytes: of a datagram as many as there is room for
+abbrev pub CameBy : Option (List FrontEvent) → Option (List FrontEvent) → Arrived → List ℕ → Type 0
+CameBy log log' (Datagram size) buffer =
+    (whole : List ℕ) × Takes log log' (came (Some whole) ∷ []) × (take size buffer ≡ take (length buffer) whole)
+CameBy log log' Nothing buffer = Takes log log' (none_came ∷ [])
+CameBy log log' Failed buffer = Takes log log' (came None ∷ [])
 
 -- a datagram is within its buffer
 abbrev pub IsWithin : ℕ → Arrived → Type 0
@@ -35,10 +36,10 @@ abbrev pub EndsFrontTurn : Bool → ℕ → List FrontEvent → Type 0
 EndsFrontTurn true count last = (count ≡ FRONT_TURN) × (last ≡ [])
 EndsFrontTurn false count last = (count < FRONT_TURN) × (last ≡ none_came ∷ [])
 
--- the receives of a turn, as far as they are known, and what was handed on: each, and nothing else
-pub record IsFrontTurn (log log' : Option (List FrontEvent)) (before after : QueuesValue) (is_ready : Bool) : Type 0 where
+-- the receives of a turn, as far as they are known, and what was handed on: each, cut to the room for a datagram, and nothing else
+pub record IsFrontTurn (room : ℕ) (log log' : Option (List FrontEvent)) (before after : QueuesValue) (is_ready : Bool) : Type 0 where
   pub receives : List Receive
   pub last : List FrontEvent
   pub logged : Takes log log' (map came receives ++ last)
-  pub handed_on : AreHandedOn before receives after
+  pub handed_on : AreHandedOn before (cut_to room receives) after
   pub ends : EndsFrontTurn is_ready (length receives) last

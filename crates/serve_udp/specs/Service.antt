@@ -58,10 +58,9 @@ WritesReady front control before after = Appends before after (ready_text front 
 abbrev pub WritesReadyOrNothing : Option (List ℕ) → Option (List ℕ) → Type 0
 WritesReadyOrNothing before after = (after ≡ before) ⊎ ((front : Endpoint) × (control : ControlAddress) × WritesReady front control before after)
 
--- that line, whole, for some two addresses, and then maybe more
-abbrev pub HasReady : Option (List ℕ) → Option (List ℕ) → Type 0
-HasReady before after =
-    (front : Endpoint) × (control : ControlAddress) × (between : Option (List ℕ)) × (more : List ℕ) × WritesReady front control before between × Appends between after more
+-- that line, whole, for these two addresses, and then maybe more
+abbrev pub HasReady : Endpoint → ControlAddress → Option (List ℕ) → Option (List ℕ) → Type 0
+HasReady front control before after = (between : Option (List ℕ)) × (more : List ℕ) × WritesReady front control before between × Appends between after more
 
 -- that line, then the line of the totals of jobs that started so, and nothing else; version 0 of their table is this
 -- configuration

@@ -1,8 +1,7 @@
 //! A turn of the front: what it receives is handed to the workers in turn (docs/COMMANDS.md, "serve").
 
 ghost use Rattle.std.specs.Prelude.{◌≡◌, List, Option, length};
-ghost use Rattle.dispatch.specs.Device.{Takes};
-ghost use Rattle.serve_udp.specs.FrontTurn.{FrontEvent, IsFrontTurn, IsWithin, came_by};
+ghost use Rattle.serve_udp.specs.FrontTurn.{CameBy, FrontEvent, IsFrontTurn, IsWithin};
 ghost use Rattle.serve_udp.specs.body.FrontTurns.{HandsOne};
 
 use serve_devices::WorkerQueues;
@@ -26,10 +25,10 @@ pub enum Arrived {
 pub trait FrontWire {
     ghost log: { Self → Option (List FrontEvent) };
 
-    /// Receives the next datagram into the front of `buf`, and does not wait.
+    /// Receives the next datagram into the front of `buf`, and does not wait. A longer one is cut to the buffer.
     fn receive(&mut self, buf: &mut [u8]) -> Arrived
         ensures within { IsWithin (length buf.new) result }
-        ensures logged { Takes (log self.old) (log self.new) (came_by result buf.new) };
+        ensures logged { CameBy (log self.old) (log self.new) result buf.new };
 }
 
 // Receives once, and hands what came to the worker whose turn it is. False if nothing has come.
@@ -39,7 +38,7 @@ fn hand_one<F: FrontWire, R: Wait>(
     queues: &mut WorkerQueues,
     buf: &mut [u8],
 ) -> bool
-    ensures { HandsOne (F.log wire.old) (F.log wire.new) queues.old queues.new result }
+    ensures { HandsOne (length buf.old) (F.log wire.old) (F.log wire.new) queues.old queues.new result }
 {
     match wire.receive(buf) {
         Arrived::Datagram(size) => {
@@ -62,7 +61,7 @@ pub fn hand_datagrams<F: FrontWire, R: Wait>(
     queues: &mut WorkerQueues,
     buf: &mut [u8],
 ) -> bool
-    ensures handed_on { IsFrontTurn (F.log wire.old) (F.log wire.new) queues.old queues.new result }
+    ensures handed_on { IsFrontTurn (length buf.old) (F.log wire.old) (F.log wire.new) queues.old queues.new result }
 {
     for _receive in 0..FRONT_TURN {
         if !hand_one(rt, wire, queues, buf) {

@@ -103,7 +103,7 @@ pub fn queued_intake<'a, R: Wait>(
     workers: usize,
 ) -> Result<Intake<'a, QueueIngress<'a, R>>, Failure>
     requires some { 1 ≤ workers }
-    ensures sources { IfOk result (λ intake. AreNewSources workers intake.sources.items) }
+    ensures sources { IfOk result (λ intake. AreNewSources (Some []) workers intake.sources.items) }
     ensures failed { IfErr result (λ failure. failure ≡ Failure.OutOfMemory) }
 {
     let mut sources = Vec::new(alloc);
@@ -136,7 +136,7 @@ pub fn direct_intake<'a, R: Wait>(
     workers: usize,
 ) -> Result<Intake<'a, SocketIngress<'a, R>>, Failure>
     requires sockets { workers ≤ length sockets.now }
-    ensures sources { IfOk result (λ intake. AreNewSources workers intake.sources.items) }
+    ensures sources { IfOk result (λ intake. AreNewSources None workers intake.sources.items) }
     ensures failed { IfErr result (λ failure. failure ≡ Failure.OutOfMemory) }
 {
     let mut sources = Vec::new(alloc);

@@ -140,7 +140,7 @@ fn serve_intake<
     ensures no_input { IfErr result IsServeFailure }
     ensures not_bound { result ≡ Err Failure.BindFailed → out.new ≡ out.old }
     ensures ready_or_nothing { IfErr result (λ failure. failure ≢ Failure.WriteFailed → WritesReadyOrNothing (W.contents out.old) (W.contents out.new)) }
-    ensures quiet { IfErr result (λ failure. failure ≡ Failure.WriteFailed → (log.new ≡ log.old) ⊎ HasReady (W.contents out.old) (W.contents out.new)) }
+    ensures quiet { IfErr result (λ failure. failure ≡ Failure.WriteFailed → (log.new ≡ log.old) ⊎ HasReady sockets.address control.entry (W.contents out.old) (W.contents out.new)) }
     ensures begun { IfErr result (λ failure. failure ≡ Failure.WriteFailed → BeginsCounted control.entry config (AreStartsOf intake.entry.sources.items) (W.contents out.old) (W.contents out.new)) }
     ensures device_failed { OutputFails result (W.failures out.old) (W.failures out.new) }
 {
@@ -181,7 +181,7 @@ pub fn serve_bound<R: Threads + Wait + Net + Sync, G: Gate + Sync, W: CountedWri
     ensures no_input { IfErr result IsServeFailure }
     ensures not_bound { result ≡ Err Failure.BindFailed → out.new ≡ out.old }
     ensures ready_or_nothing { IfErr result (λ failure. failure ≢ Failure.WriteFailed → WritesReadyOrNothing (W.contents out.old) (W.contents out.new)) }
-    ensures quiet { IfErr result (λ failure. failure ≡ Failure.WriteFailed → (log.new ≡ log.old) ⊎ HasReady (W.contents out.old) (W.contents out.new)) }
+    ensures quiet { IfErr result (λ failure. failure ≡ Failure.WriteFailed → (log.new ≡ log.old) ⊎ HasReady sockets.entry.address sockets.entry.place (W.contents out.old) (W.contents out.new)) }
     ensures begun { IfErr result (λ failure. failure ≡ Failure.WriteFailed → BeginsServedAt sockets.entry.place config workers (W.contents out.old) (W.contents out.new)) }
     ensures device_failed { OutputFails result (W.failures out.old) (W.failures out.new) }
 {

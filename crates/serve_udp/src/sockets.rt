@@ -1,6 +1,6 @@
 //! The sockets of the service, and the turns that they get (docs/COMMANDS.md, "serve").
 
-ghost use Rattle.std.specs.Prelude.{◌≡◌, None, false, true};
+ghost use Rattle.std.specs.Prelude.{◌≡◌, None, false, length, true};
 ghost use Rattle.serve_udp.specs.FrontTurn.{IsFrontTurn};
 
 use crate::bound::BoundControl;
@@ -135,7 +135,7 @@ impl FrontWire for SocketFront<'_> {
 impl QueuedFront {
     // Hands the next datagrams to the workers in turn, a failed receive too, unless the front is known to be empty.
     fn turn<R: Wait>(&mut self, rt: &R, buf: &mut [u8])
-        ensures handed_on { self.old.is_ready ≡ true → IsFrontTurn None None self.old.queues self.new.queues self.new.is_ready }
+        ensures handed_on { self.old.is_ready ≡ true → IsFrontTurn (length buf.old) None None self.old.queues self.new.queues self.new.is_ready }
         ensures idle { self.old.is_ready ≡ false → (self.new.queues ≡ self.old.queues) × (self.new.is_ready ≡ false) }
     {
         if !self.is_ready {

@@ -1,5 +1,5 @@
 -- The jobs of the service, as they are made and when it opens.
-use Rattle.std.specs.Prelude.{◌≡◌, ◌+◌, List, None, length, map, reverse, ℕ}
+use Rattle.std.specs.Prelude.{◌≡◌, ◌+◌, List, None, Option, length, map, reverse, ℕ}
 use Rattle.std.specs.List.{All}
 use Rattle.atomic_table.specs.Seated.{TableId}
 use Rattle.config_image.specs.Image.{Group}
@@ -14,16 +14,17 @@ use Rattle.dispatch.specs.Counted.{AreEnded, IsNew, IsNewWorker, counters_of}
 use Rattle.packet_verdict.specs.declared.kind.Kind.{Kind}
 use Rattle.read_section.specs.Worker.{WorkerValue}
 use Rattle.serve_devices.specs.Devices.{MemberOutboxValue, WorkerSourceValue, new_outbox, new_source}
+use Rattle.serve_devices.specs.Ingress.{Receive}
 use Rattle.serve_udp.specs.Service.{HasRoom}
 use Rattle.serve_udp.specs.declared.sockets.TheConstants.{LONGEST_DATAGRAM}
 
--- a source that gave none yet, and whose datagrams to come are not known
-abbrev pub IsNewSource : WorkerSourceValue → Type 0
-IsNewSource source = source ≡ new_source LONGEST_DATAGRAM None source.past
+-- a source whose datagrams to come are not known, of an ingress that gave these
+abbrev pub IsNewSource : Option (List Receive) → WorkerSourceValue → Type 0
+IsNewSource past source = source ≡ new_source LONGEST_DATAGRAM None past
 
 -- so many of them
-abbrev pub AreNewSources : ℕ → List WorkerSourceValue → Type 0
-AreNewSources many sources = (length sources ≡ many) × All IsNewSource sources
+abbrev pub AreNewSources : Option (List Receive) → ℕ → List WorkerSourceValue → Type 0
+AreNewSources past many sources = (length sources ≡ many) × All (IsNewSource past) sources
 
 module _ {source : Source.Ghosts WorkerSourceValue} {outbox : Outbox.Ghosts MemberOutboxValue} where
   -- jobs with new counters of one tally, whose other counters are spare

@@ -14,6 +14,8 @@ impl Egress for Cutting {
 
     ghost taken = { λ _. None };
 
+    ghost calls = { λ _. None };
+
     fn transmit(&mut self, _to: Endpoint, bytes: &[u8]) -> Result<usize, Failed> {
         Ok(bytes.len().min(3))
     }

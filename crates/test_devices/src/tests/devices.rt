@@ -196,7 +196,7 @@ fn both_are_received<R: Abort + Wait>(
 ) {
     let mut buf = [0; 3];
     for datagram in &[[1, 2, 3], [4, 5, 6]] {
-        assert!(rt; arriving.put(rt, received(rt, alloc, datagram)));
+        assert!(rt; arriving.put(rt, received(rt, alloc, datagram)).is_ok());
         assert!(rt; source.next(&mut buf) == Ok(Some(3)));
         assert!(rt; buf == *datagram);
     }

@@ -4,7 +4,7 @@ ghost use Rattle.std.specs.Prelude.{◌≡◌, ◌≤◌};
 
 use super::batches::{four_datagrams, has_totals, one_datagram, two_sends};
 use super::configurations::{three_members, workers_of};
-use dispatch::{Counter, Datagrams, Done, Gate, Job, Sends, Tally, run_workers};
+use dispatch::{Counter, Datagrams, Done, Gate, Job, Sends, Tally, run_counted, run_workers};
 use read_section::Worker;
 use std::alloc::Global;
 use std::process::Abort;
@@ -135,20 +135,40 @@ impl Gate for Numbers {
     }
 }
 
+fn no_numbers() -> Numbers {
+    Numbers {
+        started: AtomicU64::new(0),
+        ended: AtomicU64::new(0),
+    }
+}
+
 // The first job has four batches of a datagram, and one at the end: 1, 3, 5, 7 and 9. The second has one of each: 2 and 4.
+fn are_both_numbered(rt: &impl Abort, numbers: Numbers) {
+    assert!(rt; numbers.started.into_inner() == 0x10_1011_1110);
+    assert!(rt; numbers.ended.into_inner() == 0x10_1011_1110);
+}
+
 #[test]
 fn two_jobs_number_their_batches(rt: HostRuntime) {
     let one = one_datagram(&rt, rt.alloc());
     let (mut tally, jobs) = two_jobs(&rt, rt.alloc(), one, 1);
-    let numbers = Numbers {
-        started: AtomicU64::new(0),
-        ended: AtomicU64::new(0),
-    };
+    let numbers = no_numbers();
     let dones = run_workers(&rt, rt.alloc(), jobs, &numbers, || {}).expect(&rt, "both jobs run");
     assert!(rt; dones.len() == 2);
     has_totals(&rt, &mut tally, &[1, 1, 0, 0, 3, 0, 0]);
-    assert!(rt; numbers.started.into_inner() == 0x10_1011_1110);
-    assert!(rt; numbers.ended.into_inner() == 0x10_1011_1110);
+    are_both_numbered(&rt, numbers);
+}
+
+#[test]
+fn two_counted_jobs_number_their_batches(rt: HostRuntime) {
+    let one = one_datagram(&rt, rt.alloc());
+    let (mut tally, jobs) = two_jobs(&rt, rt.alloc(), one, 1);
+    let numbers = no_numbers();
+    let spare = Vec::new(rt.alloc());
+    let counters = run_counted(&rt, rt.alloc(), jobs, spare, &numbers, || {}).expect(&rt, "both");
+    assert!(rt; counters.len() == 2);
+    has_totals(&rt, &mut tally, &[1, 1, 0, 0, 3, 0, 0]);
+    are_both_numbered(&rt, numbers);
 }
 
 // Without jobs no thread is started, and `side` runs all the same.
