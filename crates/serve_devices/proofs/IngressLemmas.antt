@@ -1,12 +1,12 @@
 -- What a source takes of its ingress, and gives.
 use lib.Seq.{take-append_seam}
 use Rattle.std.proofs.lemmas.List.{map-append}
-use Rattle.std.proofs.Common.{◌+◌, ◌++◌, ◌-◌, ◌∙◌, ◌≡◌, ◌∷◌, Err, List, None, Ok, Option, Result, Some, [], ap, append-nil, arith, drop, length, length-append, option_map, refl, suc, sym, take, ℕ}
+use Rattle.std.proofs.Common.{◌++◌, ◌∙◌, ◌≡◌, ◌∷◌, Err, List, None, Ok, Option, Result, Some, [], ap, drop, length, option_map, refl, suc, sym, take, ℕ}
 use Rattle.dispatch.specs.declared.device.Failed.{Failed}
 use Rattle.dispatch.specs.Device.{Gives}
 use Rattle.serve_devices.specs.Devices.{datagrams_of}
 use Rattle.serve_devices.specs.Ingress.{HasGiven, IsNext, Receive, cut_to}
-use Rattle.serve_devices.specs.body.Ahead.{ComesAfter, IsLast, past_of, with_ahead}
+use Rattle.serve_devices.specs.body.Ahead.{ComesAfter, past_of, with_ahead}
 
 -- a datagram that was taken first is given
 pub gives_taken : (left left' room size : ℕ) (bytes copied : List ℕ) (before after : Option (List Receive)) → left ≡ suc left'

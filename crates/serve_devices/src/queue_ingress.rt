@@ -1,7 +1,7 @@
 //! The end of a worker's queue, to which another thread sends its receives through a channel
 //! (docs/SWITCH.md, "Devices of a server").
 
-ghost use Rattle.std.specs.Prelude.{◌≡◌, ◌↔◌, ◌++◌, ◌∷◌, IfOk, IfSome, IsErr, None, OnErr, Some, [], drop, length, min, take};
+ghost use Rattle.std.specs.Prelude.{◌≡◌, ◌≤◌, ◌↔◌, ◌++◌, ◌∷◌, IfOk, IfSome, IsErr, None, OnErr, Some, [], drop, length, min, take};
 ghost use Rattle.serve_devices.specs.Channel.{AreOneChannel, IsFirstOf, IsSameReceiver, IsSameSender, put_by, taken_from};
 ghost use Rattle.serve_devices.specs.Ingress.{IsNext};
 
@@ -74,13 +74,16 @@ impl<'a, R: Wait> QueueIngress<'a, R> {
 impl<'a, R: Wait> Ingress for QueueIngress<'a, R> {
     ghost use Rattle.std.specs.Prelude.{None, Some};
     ghost use Rattle.serve_devices.specs.Channel.{taken_from};
-    ghost use Rattle.serve_devices.specs.Queues.{IsSameEnd};
+    ghost use Rattle.serve_devices.specs.Ingress.{HasGiven};
+    ghost use Rattle.serve_devices.specs.Queues.{IsSameEnd, given_by};
 
     ghost coming = { λ _. None };
 
     ghost past = { λ q. Some (taken_from q.arriving) };
 
     fn receive(&mut self, buf: &mut [u8]) -> Option<Result<usize, Failed>>
+        ensures within { IfSome result (λ received. IfOk received (λ size. size ≤ length buf.new)) }
+        ensures in_order { HasGiven buf.new result (Some (given_by self.old)) (Some (given_by self.new)) }
         ensures same_queue { IsSameEnd self.old self.new }
     {
         let received = self.arriving.take(self.rt)?;
@@ -88,6 +91,8 @@ impl<'a, R: Wait> Ingress for QueueIngress<'a, R> {
     }
 
     fn try_receive(&mut self, buf: &mut [u8]) -> Option<Result<usize, Failed>>
+        ensures within { IfSome result (λ received. IfOk received (λ size. size ≤ length buf.new)) }
+        ensures in_order { HasGiven buf.new result (Some (given_by self.old)) (Some (given_by self.new)) }
         ensures same_queue { IsSameEnd self.old self.new }
     {
         let received = self.arriving.poll(self.rt)?;

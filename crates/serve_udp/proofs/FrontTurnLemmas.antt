@@ -1,12 +1,30 @@
 -- A turn of the front, one receive after the other.
-use Rattle.std.proofs.Common.{◌∙◌, ◌+◌, ◌++◌, ◌∷◌, List, Option, [], ap, length-append, map, option_map, refl, subst, sym, take, true, ℕ}
+use Rattle.std.proofs.Common.{◌≡◌, ◌≤◌, ◌∙◌, ◌+◌, ◌++◌, ◌∷◌, List, None, Option, Some, [], ap, arith, length, length-append, length-take-le, map, option_map, refl, subst, sym, take, take_all, true, ℕ}
 use Rattle.std.proofs.lemmas.List.{map-append}
 use Rattle.dispatch.specs.Device.{Takes}
 use Rattle.dispatch.proofs.DeviceLemmas.{takes_more, takes_nothing}
 use Rattle.serve_devices.specs.Ingress.{cut_to}
-use Rattle.serve_devices.specs.Queues.{QueuesValue}
-use Rattle.serve_udp.specs.FrontTurn.{AreHandedOn, FrontEvent, came, none, one_more}
+use Rattle.serve_devices.specs.Queues.{HandsOn, QueuesValue, next_turn}
+use Rattle.serve_udp.specs.FrontTurn.{AreHandedOn, CameBy, FrontEvent, came, none, one_more}
+use Rattle.serve_udp.specs.declared.front_turn.Arrived.TheVariants.{Datagram}
 use Rattle.serve_udp.specs.body.FrontTurns.{HandsOne, IsFrontBegun}
+
+-- what was received of a datagram is what there is room for, and that was handed on
+pub handed_whole : (log log' : Option (List FrontEvent)) (before after : QueuesValue) (room size : ℕ) (buffer bytes : List ℕ) → length buffer ≡ room
+    → CameBy log log' (Datagram size) buffer → bytes ≡ take size buffer → HandsOn before after (Some bytes) → after.turn ≡ next_turn before
+    → HandsOne room log log' before after true
+handed_whole log log' before after room size buffer bytes long (whole, logged, same) is handed turned = (
+  Some whole,
+  logged,
+  subst (λ cut. HandsOn before after (Some cut)) (is ∙ same ∙ ap (λ (n : ℕ). take n whole) long) handed,
+  turned,
+)
+
+-- a datagram of which no more is known
+pub is_cut : (size : ℕ) (buffer : List ℕ) → size ≤ length buffer → CameBy None None (Datagram size) buffer
+is_cut size buffer within =
+    let long = length-take-le size buffer within in
+    (take size buffer, tt, sym (take_all (length buffer) (take size buffer) (omega (arith, long, within))))
 
 -- no receive was made yet
 pub front_begins : (room : ℕ) (log : Option (List FrontEvent)) (before : QueuesValue) → IsFrontBegun room 0 log log before before

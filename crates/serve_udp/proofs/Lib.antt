@@ -1,5 +1,5 @@
 mod CountedLemmas
-mod FrontTurnLemmas
+pub mod FrontTurnLemmas
 mod JobsLemmas
 mod ServingLemmas
 mod TurnLemmas

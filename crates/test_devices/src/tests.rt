@@ -4,4 +4,5 @@ mod control_datagrams;
 mod cut_sends;
 mod device_sockets;
 mod devices;
+mod queue_law;
 mod worker_order;

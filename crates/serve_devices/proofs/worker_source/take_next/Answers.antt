@@ -1,6 +1,5 @@
 use Rattle.std.proofs.Common.{◌≡◌, List, None, Option, Result, Some, length, option_map, rules, subst, sym, ℕ}
 use Rattle.dispatch.specs.declared.device.Failed.{Failed}
-use Rattle.serve_devices.specs.Ingress.{Receive}
 use Rattle.serve_devices.specs.body.Ahead.{ComesAfter, past_of}
 use Rattle.serve_devices.proofs.IngressLemmas.{found_given, whole_room}
 use Rattle.serve_devices.proofs.worker_source.take_next.Goals as goal

@@ -1,3 +1,4 @@
+use Rattle.std.proofs.Common.{length}
 use Rattle.serve_udp.specs.body.FrontTurns.{IsFrontBegun}
 use Rattle.serve_udp.proofs.front_turn.hand_datagrams.Given as goal
 
