@@ -2,7 +2,7 @@
 
 ghost use Rattle.std.specs.Prelude.{◌≡◌, ◌≢◌, IfOk};
 ghost use Rattle.command_operating.specs.Printing.{IsAskFault};
-ghost use Rattle.command_operating.specs.body.Asked.{IsNoneAt, IsNoneOfAClient, IsUnasked, PassesOn};
+ghost use Rattle.command_operating.specs.body.Asked.{CannotFailAt, CannotFailOfClient, IsUnasked, PassesOn};
 ghost use Rattle.control_client.specs.Wire.{peer_of};
 
 use command_line::{ControlAddress, Failure};
@@ -30,7 +30,7 @@ pub(crate) fn client_of<'a, R: Net + Clock>(
 /// Returns how a command fails that could not ask the switch at an address. Over a path it binds no socket.
 pub(crate) fn ask_failure(failure: AskFailure, address: ControlAddress<'_>) -> Failure
     ensures fault { IsAskFault ⊥ address.entry result }
-    ensures same { PassesOn (IsNoneAt address.entry) failure result }
+    ensures same { PassesOn (CannotFailAt address.entry) failure result }
     ensures no_output { result ≢ Failure.WriteFailed }
 {
     match failure {
@@ -47,7 +47,7 @@ pub(crate) fn ask_failure(failure: AskFailure, address: ControlAddress<'_>) -> F
 /// that a socket could not be bound.
 pub(crate) fn unasked(failure: AskFailure) -> Failure
     ensures fault { IsUnasked result }
-    ensures same { PassesOn IsNoneOfAClient failure result }
+    ensures same { PassesOn CannotFailOfClient failure result }
     ensures no_output { result ≢ Failure.WriteFailed }
 {
     match failure {

@@ -69,6 +69,11 @@ abbrev pub whole_of : {E : Type 0} → Result ℕ E → Endpoint → List ℕ �
 whole_of (Ok size) to bytes = if size == length bytes then record { to = to; bytes = bytes } ∷ [] else []
 whole_of (Err fault) to bytes = []
 
+-- an outbox over an egress: the outbox, and how often the egress was called, if that is known
+pub record SocketOutboxValue : Type 0 where
+  pub outbox : OutboxValue
+  pub calls : Option ℕ
+
 -- an outbox that counts by member: how often it failed, what was sent, and what it has not handed on
 pub record MemberOutboxValue : Type 0 where
   pub outbox : OutboxValue

@@ -14,7 +14,7 @@ put_for queue = put_by queue.arriving
 abbrev pub IsOpen : WorkerQueue → Type 0
 IsOpen queue = queue.ended ≡ None
 
--- its worker is known to have ended: a put said so
+-- its worker is known to have ended
 abbrev pub HasEnded : WorkerQueue → Type 0
 HasEnded queue = IsSome queue.ended
 

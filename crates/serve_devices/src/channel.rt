@@ -94,7 +94,7 @@ impl<T> Lesson<T, Share<T>> for Rest {
 }
 
 /// The other end of a channel is gone. Only a put that failed returns one.
-#[derive(Clone, Copy)]
+#[derive(Drop)]
 pub struct Gone(());
 
 /// The end of a channel into which values are put. Contracts see what was put.

@@ -16,8 +16,8 @@ use std::time::Duration;
 // The time that a send waits before the flag is read again, in milliseconds.
 const SEND_TURN: u64 = 50;
 
-/// A device that sends datagrams. Contracts see what was sent, without the sends that failed or were cut, and how often it was
-/// called, each if it is known.
+/// A device that sends datagrams. Contracts see what was sent, if it is known, without the sends that failed or were cut. They also see
+/// the number of calls, if it is known.
 pub trait Egress {
     ghost taken: { Self → Option (List Sent) };
 

@@ -44,7 +44,7 @@ impl<'a, E: Egress + Drop, R: Wait> Model for MemberOutbox<'a, E, R> {
 
     ghost Value = { MemberOutboxValue };
 
-    ghost view = { λ o. record { outbox = o.outbox; log = o.log } };
+    ghost view = { λ o. record { outbox = o.outbox.outbox; log = o.log } };
 
     ghost invariant = { λ o. o.log.room ≡ LOG_ROOM };
 }

@@ -1,8 +1,8 @@
 //! The outbox of a worker: a UDP socket of its own.
 
-ghost use Rattle.std.specs.Prelude.{◌≡◌};
-ghost use Rattle.dispatch.specs.Device.{Takes, taken_by};
-ghost use Rattle.serve_devices.specs.Devices.{CountsCall, outbox_with};
+ghost use Rattle.std.specs.Prelude.{◌≡◌, ◌≢◌};
+ghost use Rattle.dispatch.specs.Device.{CountsFailure, Takes, taken_by};
+ghost use Rattle.serve_devices.specs.Devices.{CountsCall, MOST_FAILURES, outbox_with};
 
 use crate::egress::Egress;
 use dispatch::{Failed, Outbox};
@@ -11,8 +11,8 @@ use std::marker::Model;
 
 /// An outbox over an egress, such as a socket. A send fails if the egress fails, or takes fewer bytes than there are.
 ///
-/// Contracts see how often it failed, and what was sent, if the egress shows it. After 2^64 - 1 failures it sends no
-/// more, returns as if all were sent, and no longer shows what was sent.
+/// Contracts see how often it failed, and what was sent and how often the egress was called, if the egress shows it. After
+/// 2^64 - 1 failures it sends no more, returns as if all were sent, and no longer shows what was sent.
 #[derive(Drop)]
 pub struct SocketOutbox<E: Egress + Drop> {
     egress: E,
@@ -20,12 +20,11 @@ pub struct SocketOutbox<E: Egress + Drop> {
 }
 
 impl<E: Egress + Drop> Model for SocketOutbox<E> {
-    ghost use Rattle.dispatch.specs.Device.{OutboxValue};
-    ghost use Rattle.serve_devices.specs.Devices.{outbox_with};
+    ghost use Rattle.serve_devices.specs.Devices.{SocketOutboxValue, outbox_with};
 
-    ghost Value = { OutboxValue };
+    ghost Value = { SocketOutboxValue };
 
-    ghost view = { λ o. outbox_with o.failures (E.taken o.egress) };
+    ghost view = { λ o. record { outbox = outbox_with o.failures (E.taken o.egress); calls = E.calls o.egress } };
 }
 
 // Sends, by one call. A datagram that was not taken whole is a send that failed.
@@ -42,7 +41,7 @@ fn transmit_whole<E: Egress>(egress: &mut E, to: Endpoint, bytes: &[u8]) -> Resu
 impl<E: Egress + Drop> SocketOutbox<E> {
     /// Takes the egress, by which no send has failed yet.
     pub fn new(egress: E) -> SocketOutbox<E>
-        ensures new { result ≡ outbox_with 0 (E.taken egress) }
+        ensures new { result ≡ record { outbox = outbox_with 0 (E.taken egress); calls = E.calls egress } }
     {
         SocketOutbox {
             egress,
@@ -52,9 +51,13 @@ impl<E: Egress + Drop> SocketOutbox<E> {
 }
 
 impl<E: Egress + Drop> Outbox for SocketOutbox<E> {
-    ghost state = { λ o. o };
+    ghost state = { λ o. o.outbox };
 
-    fn send(&mut self, to: Endpoint, bytes: &[u8]) -> Result<(), Failed> {
+    fn send(&mut self, to: Endpoint, bytes: &[u8]) -> Result<(), Failed>
+        ensures device_failed { CountsFailure result self.old.outbox.failures self.new.outbox.failures }
+        ensures sent_once { Takes self.old.outbox.taken self.new.outbox.taken (taken_by result to bytes.now) }
+        ensures called { self.old.outbox.failures ≢ MOST_FAILURES → CountsCall self.old.calls self.new.calls }
+    {
         if self.failures == u64::MAX {
             return Ok(());
         }

@@ -30,7 +30,7 @@ pub fn limits_as_numbers()
 pub struct WorkerQueue {
     arriving: ChannelSender<Received>,
     opened: ChannelReceiver<Received>,
-    // What the put said that found that its worker has ended.
+    // Set once a put has failed: its worker has ended.
     ended: Option<Gone>,
 }
 

@@ -3,7 +3,7 @@
 ghost use Rattle.std.specs.Prelude.{◌≡◌, ◌∷◌, List, Option, Some, [], length};
 ghost use Rattle.dispatch.specs.Device.{Takes};
 ghost use Rattle.serve_control.specs.Answer.{IsTotals};
-ghost use Rattle.serve_udp.specs.Control.{ControlEvent, IsControlTurn, IsWithin, came_by, is_stop, replied};
+ghost use Rattle.serve_udp.specs.Control.{CameBy, ControlEvent, IsControlTurn, IsWithin, is_stop, replied};
 ghost use Rattle.serve_udp.specs.body.Turns.{AnswersOne, GoesOnBy, IsSentBack};
 
 use dispatch::{NamedTally, TallyName};
@@ -30,10 +30,10 @@ pub enum Asked {
 pub trait ControlWire {
     ghost log: { Self → Option (List ControlEvent) };
 
-    /// Receives the next datagram into the front of `buf`, and does not wait.
+    /// Receives the next datagram into the front of `buf`, and does not wait. A longer one is cut to the buffer.
     fn receive(&mut self, buf: &mut [u8]) -> Asked
         ensures within { IsWithin (length buf.new) result }
-        ensures logged { Takes (log self.old) (log self.new) (came_by result buf.new) };
+        ensures logged { CameBy (log self.old) (log self.new) result buf.new };
 
     /// Sends a reply as one datagram. A failure is ignored.
     fn reply(&mut self, to: Endpoint, bytes: &[u8])
@@ -131,7 +131,7 @@ fn answer_next<C: ControlWire, N: TallyName, L: LogLines, M: MemberTotals>(
     members: &mut M,
     log: &mut Log<L>,
 ) -> Next
-    ensures { GoesOnBy bound.now (C.log wire.old) (C.log wire.new)
+    ensures { GoesOnBy (length buf.old) bound.now (C.log wire.old) (C.log wire.new)
         (record { operator = operator.old; tally = named.old.tally; members = M.table members.old })
         (record { operator = operator.new; tally = named.new.tally; members = M.table members.new }) result }
 {
@@ -163,7 +163,7 @@ pub fn answer_datagrams<C: ControlWire, N: TallyName, L: LogLines, M: MemberTota
     members: &mut M,
     log: &mut Log<L>,
 ) -> Next
-    ensures answered_each { IsControlTurn bound.now (C.log wire.old) (C.log wire.new)
+    ensures answered_each { IsControlTurn (length buf.old) bound.now (C.log wire.old) (C.log wire.new)
         (record { operator = operator.old; tally = named.old.tally; members = M.table members.old })
         (record { operator = operator.new; tally = named.new.tally; members = M.table members.new }) result }
 {

@@ -19,14 +19,14 @@ pub record IsAsked (control : Option Text) (text : Text) (address : ControlAddre
 abbrev pub IsUnasked : Failure → Type 0
 IsUnasked failure = (failure ≢ ReadFailed) × (failure ≢ SpawnFailed) × (failure ≢ BindFailed)
 
--- the failure is passed on as it is; but one that cannot be is passed on as refused memory
+-- the failure is passed on as it is, or, if it cannot be, as refused memory
 abbrev pub PassesOn : (AskFailure → Type 0) → AskFailure → Failure → Type 0
 PassesOn CannotBe failure given = (given ≡ failure_of failure) ⊎ (CannotBe failure × (given ≡ OutOfMemory))
 
 -- to ask the switch at an address no file is read, and no socket is bound but over UDP
-abbrev pub IsNoneAt : ControlAddress → AskFailure → Type 0
-IsNoneAt address failure = (failure ≡ asked.ReadFailed) ⊎ ((failure ≡ asked.BindFailed) × IsPath address)
+abbrev pub CannotFailAt : ControlAddress → AskFailure → Type 0
+CannotFailAt address failure = (failure ≡ asked.ReadFailed) ⊎ ((failure ≡ asked.BindFailed) × IsPath address)
 
 -- a client that was made reads no file and binds no socket
-abbrev pub IsNoneOfAClient : AskFailure → Type 0
-IsNoneOfAClient failure = (failure ≡ asked.ReadFailed) ⊎ (failure ≡ asked.BindFailed)
+abbrev pub CannotFailOfClient : AskFailure → Type 0
+CannotFailOfClient failure = (failure ≡ asked.ReadFailed) ⊎ (failure ≡ asked.BindFailed)

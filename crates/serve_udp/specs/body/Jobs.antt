@@ -18,7 +18,7 @@ use Rattle.serve_devices.specs.Ingress.{Receive}
 use Rattle.serve_udp.specs.Service.{HasRoom}
 use Rattle.serve_udp.specs.declared.sockets.TheConstants.{LONGEST_DATAGRAM}
 
--- a source whose datagrams to come are not known, of an ingress that gave these
+-- a new source: its datagrams to come are not known, and these were given before, if that is known
 abbrev pub IsNewSource : Option (List Receive) → WorkerSourceValue → Type 0
 IsNewSource past source = source ≡ new_source LONGEST_DATAGRAM None past
 

@@ -10,23 +10,23 @@ use Rattle.serve_udp.specs.declared.control_turn.Next.{Next}
 use Rattle.serve_udp.specs.declared.control_turn.Next.TheVariants as next
 
 -- so many receives of a turn were made
-pub record IsBegun (bound : BoundAddresses) (count : ℕ) (log log' : Option (List ControlEvent)) (before after : Service) : Type 0 where
+pub record IsBegun (room : ℕ) (bound : BoundAddresses) (count : ℕ) (log log' : Option (List ControlEvent)) (before after : Service) : Type 0 where
   pub events : List ControlEvent
   pub logged : Takes log log' events
-  pub answered_each : AnswersInTurn bound before count events false after
+  pub answered_each : AnswersInTurn room bound before count events false after
 
 -- one more receive was made, whatever happened before in the turn
-pub record ReceivesOne (bound : BoundAddresses) (log log' : Option (List ControlEvent)) (before after : Service) (stops : Bool) : Type 0 where
+pub record ReceivesOne (room : ℕ) (bound : BoundAddresses) (log log' : Option (List ControlEvent)) (before after : Service) (stops : Bool) : Type 0 where
   pub events : List ControlEvent
   pub logged : Takes log log' events
-  pub goes_on : (first : Service) (count : ℕ) (earlier : List ControlEvent) → AnswersInTurn bound first count earlier false before
-      → AnswersInTurn bound first (count + 1) (earlier ++ events) stops after
+  pub goes_on : (first : Service) (count : ℕ) (earlier : List ControlEvent) → AnswersInTurn room bound first count earlier false before
+      → AnswersInTurn room bound first (count + 1) (earlier ++ events) stops after
 
 -- or none came
-abbrev pub GoesOnBy : BoundAddresses → Option (List ControlEvent) → Option (List ControlEvent) → Service → Service → Next → Type 0
-GoesOnBy bound log log' before after next.Answered = ReceivesOne bound log log' before after false
-GoesOnBy bound log log' before after next.Nothing = (after ≡ before) × Takes log log' (none_came ∷ [])
-GoesOnBy bound log log' before after next.Stop = ReceivesOne bound log log' before after true
+abbrev pub GoesOnBy : ℕ → BoundAddresses → Option (List ControlEvent) → Option (List ControlEvent) → Service → Service → Next → Type 0
+GoesOnBy room bound log log' before after next.Answered = ReceivesOne room bound log log' before after false
+GoesOnBy room bound log log' before after next.Nothing = (after ≡ before) × Takes log log' (none_came ∷ [])
+GoesOnBy room bound log log' before after next.Stop = ReceivesOne room bound log log' before after true
 
 -- an answer was sent back
 pub record IsSentBack (log log' : Option (List ControlEvent)) (to : Endpoint) (answer : ControlAnswer) : Type 0 where

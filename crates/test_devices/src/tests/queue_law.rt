@@ -25,7 +25,7 @@ fn put<R: Abort + Wait>(
     all.into_queues().pop().expect(rt, "the queue")
 }
 
-// What the end has given is still the first of what was put for it: before a receive, after one, and after one by which none came.
+// The end's receives are a prefix of those that were put: before a receive, after one, and after a call that found none.
 #[test]
 fn given_stays_first(rt: HostRuntime) {
     let alloc = rt.alloc();

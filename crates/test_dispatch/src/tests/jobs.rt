@@ -50,7 +50,7 @@ fn ended(rt: &impl Abort, gate: &Expected, last: u64) {
     assert!(rt; gate.next.get() == last.wrapping_add(3));
 }
 
-// One that expects this number first, and each further one 3 more.
+// A gate that expects this number first, and 3 more for each further batch.
 fn expecting(first: u64) -> Expected {
     Expected {
         next: Cell::new(first),
