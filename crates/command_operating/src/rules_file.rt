@@ -1,6 +1,6 @@
 //! The rules that a switch begins with (docs/COMMANDS.md, "Rules files").
 
-ghost use Rattle.std.specs.Prelude.{◌≡◌, ◌⊎◌, ◌≤◌, ◌++◌, IfErr, IfOk, OnOk, length, option_map};
+ghost use Rattle.std.specs.Prelude.{◌≡◌, ◌⊎◌, ◌≤◌, ◌+◌, ◌++◌, IfErr, IfOk, OnOk, length, option_map};
 ghost use Rattle.std.specs.Io.KnownBytes.{Appends};
 ghost use Rattle.member_group.specs.Charge.{charge_of};
 ghost use Rattle.versions.specs.declared.layout.TheConstants.{CHARGE_LIMIT};
@@ -9,6 +9,7 @@ ghost use Rattle.command_line.specs.Input.{IsInput};
 ghost use Rattle.command_line.specs.declared.ending.Failure.TheVariants as failure;
 ghost use Rattle.control_line.specs.Reason.{refusal_text};
 ghost use Rattle.control_line.specs.Rules.{IsConfigOf};
+ghost use Rattle.control_line.specs.declared.TheConstants.{BLOCK_LIMIT};
 ghost use Rattle.command_streams.specs.Endings.{EndsByCause, EndsByOneCause};
 ghost use Rattle.command_streams.specs.Failures.{InputFails, OutputFails};
 ghost use Rattle.command_operating.specs.Opening.{EndsUnopened, EndsUnread, FailsOpening, FailsUnread, IsMadeFrom, IsOpening, RefusesOpening, RefusesRules, file_refusal_text, of_line};
@@ -122,13 +123,20 @@ fn refuse_file<W: CountedWrite, E: Write>(
     }
 }
 
+// The most bytes that are read of a rules file: one more than it may have.
+fn most_read() -> u64
+    ensures { result ≡ BLOCK_LIMIT + 1 }
+{
+    BLOCK_LIMIT as u64 + 1
+}
+
 // Reads a rules file of this name, and one byte more than it may have if it has more.
 fn read_text<F: ReadFiles>(alloc: Global, name: &str, files: &mut F) -> Result<Vec<u8>, Failure>
     ensures text { IfOk result (λ text. IsReadOf (F.contents files.old name.now) text.items) }
     ensures cause { IfErr result (λ failure. (failure ≡ Failure.ReadFailed) ⊎ (failure ≡ Failure.OutOfMemory)) }
     ensures device_failed { InputFails result (F.failures files.old) (F.failures files.new) }
 {
-    files.read(alloc, name, Some(BLOCK_LIMIT as u64 + 1))
+    files.read(alloc, name, Some(most_read()))
 }
 
 /// Opens and reads a rules file of this name. If the file makes no configuration, writes the cause, and returns the exit status.
