@@ -1,6 +1,7 @@
 //! The rules that a switch begins with (docs/COMMANDS.md, "Rules files").
 
-ghost use Rattle.std.specs.Prelude.{◌≡◌, ◌⊎◌, ◌≤◌, ◌+◌, ◌++◌, IfErr, IfOk, OnOk, length, option_map};
+ghost use Rattle.std.specs.Prelude.{◌≡◌, ◌⊎◌, ◌≤◌, ◌+◌, ◌++◌, IfErr, IfOk, OnOk, Some, length, option_map};
+ghost use Rattle.command_operating.specs.Files.{first_bytes};
 ghost use Rattle.std.specs.Io.KnownBytes.{Appends};
 ghost use Rattle.member_group.specs.Charge.{charge_of};
 ghost use Rattle.versions.specs.declared.layout.TheConstants.{CHARGE_LIMIT};
@@ -133,6 +134,7 @@ fn most_read() -> u64
 // Reads a rules file of this name, and one byte more than it may have if it has more.
 fn read_text<F: ReadFiles>(alloc: Global, name: &str, files: &mut F) -> Result<Vec<u8>, Failure>
     ensures text { IfOk result (λ text. IsReadOf (F.contents files.old name.now) text.items) }
+    ensures most { IfOk result (λ text. IsInput (option_map (first_bytes (Some (BLOCK_LIMIT + 1))) (F.contents files.old name.now)) text.items) }
     ensures cause { IfErr result (λ failure. (failure ≡ Failure.ReadFailed) ⊎ (failure ≡ Failure.OutOfMemory)) }
     ensures device_failed { InputFails result (F.failures files.old) (F.failures files.new) }
 {

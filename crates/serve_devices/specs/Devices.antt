@@ -58,7 +58,7 @@ MOST_FAILURES = 2 ^ 64 - 1
 abbrev pub outbox_with : ℕ → Option (List Sent) → OutboxValue
 outbox_with failures taken = record { failures = failures; taken = if failures == MOST_FAILURES then None else taken }
 
--- an egress was called once, if it is known how often it was; from some call on it may be unknown
+-- the egress was called once, if the number of its calls is known; from some call on it may be unknown
 abbrev pub CountsCall : Option ℕ → Option ℕ → Type 0
 CountsCall before None = Unit {0}
 CountsCall None (Some after) = ⊥

@@ -18,8 +18,8 @@ IsOpen queue = queue.ended ≡ None
 abbrev pub HasEnded : WorkerQueue → Type 0
 HasEnded queue = IsSome queue.ended
 
--- this receive was put for the worker; or none was, since the worker has ended, or since memory for a datagram was refused. That the worker
--- has ended becomes known only if the receive was not put
+-- this receive was put for the worker; or none was, since the worker has ended, or since memory for a datagram was refused. It becomes
+-- known that the worker has ended only if the receive was not put
 abbrev pub Arrives : WorkerQueue → WorkerQueue → Receive → Type 0
 Arrives before after receive =
     (HasPut before.arriving after.arriving receive × (after.ended ≡ before.ended))

@@ -57,6 +57,7 @@ impl<E: Egress + Drop> Outbox for SocketOutbox<E> {
         ensures device_failed { CountsFailure result self.old.outbox.failures self.new.outbox.failures }
         ensures sent_once { Takes self.old.outbox.taken self.new.outbox.taken (taken_by result to bytes.now) }
         ensures called { self.old.outbox.failures ≢ MOST_FAILURES → CountsCall self.old.calls self.new.calls }
+        ensures full { self.old.outbox.failures ≡ MOST_FAILURES → self.new.calls ≡ self.old.calls }
     {
         if self.failures == u64::MAX {
             return Ok(());

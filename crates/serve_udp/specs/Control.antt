@@ -19,7 +19,7 @@ pub data ControlEvent : Type 0 where
   receive_failed : ControlEvent
   replied : (to : Endpoint) (bytes : List ℕ) → ControlEvent
 
--- a receive found this, and its buffer then has these bytes: of a datagram as many as there is room for
+-- a receive found this, and its buffer then has these bytes: of a datagram longer than the buffer, only the first
 abbrev pub CameBy : Option (List ControlEvent) → Option (List ControlEvent) → Asked → List ℕ → Type 0
 CameBy log log' (Datagram from len) buffer =
     (whole : List ℕ) × Takes log log' (came from whole ∷ []) × (take len buffer ≡ take (length buffer) whole)

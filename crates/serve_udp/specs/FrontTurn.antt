@@ -12,7 +12,7 @@ pub data FrontEvent : Type 0 where
   came : Receive → FrontEvent
   none_came : FrontEvent
 
--- a receive found this, and its buffer then has these bytes: of a datagram as many as there is room for
+-- a receive found this, and its buffer then has these bytes: of a datagram longer than the buffer, only the first
 abbrev pub CameBy : Option (List FrontEvent) → Option (List FrontEvent) → Arrived → List ℕ → Type 0
 CameBy log log' (Datagram size) buffer =
     (whole : List ℕ) × Takes log log' (came (Some whole) ∷ []) × (take size buffer ≡ take (length buffer) whole)

@@ -19,11 +19,11 @@ pub record IsAsked (control : Option Text) (text : Text) (address : ControlAddre
 abbrev pub IsUnasked : Failure → Type 0
 IsUnasked failure = (failure ≢ ReadFailed) × (failure ≢ SpawnFailed) × (failure ≢ BindFailed)
 
--- the failure is passed on as it is, or, if it cannot be, as refused memory
+-- the failure is passed on as it is; one that cannot happen is passed on as refused memory
 abbrev pub PassesOn : (AskFailure → Type 0) → AskFailure → Failure → Type 0
 PassesOn CannotBe failure given = (given ≡ failure_of failure) ⊎ (CannotBe failure × (given ≡ OutOfMemory))
 
--- to ask the switch at an address no file is read, and no socket is bound but over UDP
+-- asking at an address reads no file, and binds a socket only over UDP
 abbrev pub CannotFailAt : ControlAddress → AskFailure → Type 0
 CannotFailAt address failure = (failure ≡ asked.ReadFailed) ⊎ ((failure ≡ asked.BindFailed) × IsPath address)
 
