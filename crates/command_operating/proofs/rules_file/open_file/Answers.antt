@@ -1,11 +1,14 @@
 use Rattle.std.proofs.Common.{inr, refl, rules}
 use Rattle.command_line.specs.declared.ending.Failure.TheVariants.{OutOfMemory}
 use Rattle.command_operating.proofs.CauseLemmas.{reads_once, refuses_once, writes_once}
-use Rattle.command_operating.proofs.OpeningLemmas.{charge_within, fails_reading, fails_refusing, not_read, not_written}
+use Rattle.command_operating.proofs.OpeningLemmas.{charge_within, fails_reading, fails_refusing, not_read, not_written, refused_of}
 use Rattle.command_operating.proofs.rules_file.open_file.Goals as goal
 
 pub returns-in-Ok-rules-clause-within : goal.returns-in-Ok-rules-clause-within
 returns-in-Ok-rules-clause-within g c = charge_within _ c.in-Ok-rules.config c.in-Ok-rules.ensures
+
+pub returns-in-Err-Refused-clause-refused : goal.returns-in-Err-Refused-clause-refused
+returns-in-Err-Refused-clause-refused g c = λ is. refused_of _ _ _ _ c.in-Ok.ensures.text _ _ (search rules) (c.refuse_file.ensures.refused is)
 
 pub returns-in-Err-Refused-clause-failed : goal.returns-in-Err-Refused-clause-failed
 returns-in-Err-Refused-clause-failed g c = λ is.
