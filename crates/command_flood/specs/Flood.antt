@@ -1,5 +1,5 @@
 -- The jobs whose totals `flood` writes, and the line of them (docs/COMMANDS.md, "flood").
-use Rattle.std.specs.Prelude.{◌≡◌, List, Option, Some, [], map, ℕ}
+use Rattle.std.specs.Prelude.{◌≡◌, List, None, Option, Some, [], map, ℕ}
 use Rattle.std.specs.List.{All}
 use Rattle.dispatch.specs.declared.kind.Totals.{Totals}
 use Rattle.dispatch.specs.Batch.{Parts}
@@ -17,11 +17,11 @@ use Rattle.command_totals.specs.Beginning.{BeginsTotals}
 -- the parts of a job over memory
 abbrev pub parts_of : WorkerValue → CounterValue → List (List ℕ) → SendsValue → Parts
 parts_of worker counter datagrams sends =
-    record { worker = worker; counter = counter; source = record { failures = 0; coming = Some datagrams }; outbox = outbox_of sends }
+    record { worker = worker; counter = counter; source = record { failures = 0; coming = Some datagrams; given = None }; outbox = outbox_of sends }
 
 -- the source of a worker's share, and an outbox that was sent nothing
 abbrev pub shared_source : ℕ → ℕ → ℕ → SourceValue
-shared_source workers datagrams worker = record { failures = 0; coming = Some (share_of worker workers datagrams) }
+shared_source workers datagrams worker = record { failures = 0; coming = Some (share_of worker workers datagrams); given = None }
 
 abbrev pub empty_outbox : OutboxValue
 empty_outbox = record { failures = 0; taken = Some [] }

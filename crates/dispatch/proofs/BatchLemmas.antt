@@ -10,11 +10,11 @@ use Rattle.dispatch.specs.declared.batches.BatchFault.{BatchFault}
 use Rattle.dispatch.specs.declared.batches.BatchFault.TheVariants as fault
 use Rattle.packet_verdict.specs.declared.kind.Kind.TheVariants as kind
 use Rattle.dispatch.specs.Batch.{AreJudged, FailsToReceive, IsCutShort, IsFull, IsJudged, IsRun, Judged, Parts, all_counted_for, all_sent, counted_as, counted_for, one_if, packets_of, sent_of}
-use Rattle.dispatch.specs.Device.{Gives, IsAtEnd, OutboxValue, Sent, Takes}
+use Rattle.dispatch.specs.Device.{AreGivenAfter, Gives, IsAtEnd, OutboxValue, Sent, Takes}
 use Rattle.dispatch.specs.Tally.{CounterValue}
 use Rattle.dispatch.specs.Told.{IsToldBatch, Told, all_told, told_of, told_of_last}
 use Rattle.dispatch.specs.WorkerSteps.{AddsOwnSteps}
-use Rattle.dispatch.proofs.DeviceLemmas.{gives_more, gives_nothing, takes_more, takes_nothing}
+use Rattle.dispatch.proofs.DeviceLemmas.{after_more, after_nothing, gives_more, gives_nothing, takes_more, takes_nothing}
 
 judged_more : (before mid after : WorkerValue) (judged : List Judged) (one : Judged) → AreJudged before judged mid → IsJudged mid one → after ≡ one.after
     → AreJudged before (judged ++ one ∷ []) after
@@ -30,6 +30,7 @@ pub record IsOne (room : ℕ) (before after : Parts) (judged : Judged) : Type 0 
   pub own_section : IsJudged before.worker judged
   pub after_it : after.worker ≡ judged.after
   pub given_once : Gives room before.source.coming after.source.coming (judged.packet ∷ [])
+  pub given_in_order : AreGivenAfter room before.source.given after.source.given (judged.packet ∷ [])
   pub counted_once : after.counter ≡ counted_for judged before.counter
   pub sent_once : Takes before.outbox.taken after.outbox.taken (sent_of judged)
   pub source_healthy : after.source.failures ≡ before.source.failures
@@ -39,6 +40,7 @@ pub run_of_none : (room : ℕ) (parts : Parts) → IsRun room parts parts []
 run_of_none room parts = record {
   own_section_each = refl;
   given_once = gives_nothing room parts.source.coming;
+  given_in_order = after_nothing room parts.source.given;
   counted_once = refl;
   sent_once = takes_nothing parts.outbox.taken;
   source_healthy = refl;
@@ -51,6 +53,8 @@ run_more room before mid after judged one run last = record {
   own_section_each = judged_more before.worker mid.worker after.worker judged one run.own_section_each last.own_section last.after_it;
   given_once = subst (λ (given : List (List ℕ)). Gives room before.source.coming after.source.coming given) (sym (map-append (λ (j : Judged). j.packet) judged (one ∷ [])))
       (gives_more room before.source.coming mid.source.coming after.source.coming (packets_of judged) (one.packet ∷ []) run.given_once last.given_once);
+  given_in_order = subst (λ (given : List (List ℕ)). AreGivenAfter room before.source.given after.source.given given) (sym (map-append (λ (j : Judged). j.packet) judged (one ∷ [])))
+      (after_more room before.source.given mid.source.given after.source.given (packets_of judged) (one.packet ∷ []) run.given_in_order last.given_in_order);
   counted_once = last.counted_once ∙ ap (λ (counter : CounterValue). counted_for one counter) run.counted_once ∙ sym (counted_more judged one before.counter);
   sent_once = subst (λ (sent : List Sent). Takes before.outbox.taken after.outbox.taken sent) (sym (flat_map-append sent_of judged (one ∷ []) ∙ ap (λ (sent : List Sent). all_sent judged ++ sent) (append-nil (sent_of one))))
       (takes_more before.outbox.taken mid.outbox.taken after.outbox.taken (all_sent judged) (sent_of one) run.sent_once last.sent_once);
@@ -81,11 +85,14 @@ told_more told mid told' judged one first second =
 
 -- a run after which the source gave nothing, and nothing else happened
 pub run_on : (room : ℕ) (before mid after : Parts) (judged : List Judged) → IsRun room before mid judged → after.worker ≡ mid.worker → after.counter ≡ mid.counter
-    → after.outbox ≡ mid.outbox → Gives room mid.source.coming after.source.coming [] → after.source.failures ≡ mid.source.failures → IsRun room before after judged
-run_on room before mid after judged run worker counter outbox given healthy = record {
+    → after.outbox ≡ mid.outbox → Gives room mid.source.coming after.source.coming [] → AreGivenAfter room mid.source.given after.source.given []
+    → after.source.failures ≡ mid.source.failures → IsRun room before after judged
+run_on room before mid after judged run worker counter outbox given given_no_more healthy = record {
   own_section_each = subst (λ (w : WorkerValue). AreJudged before.worker judged w) (sym worker) run.own_section_each;
   given_once = subst (λ (given : List (List ℕ)). Gives room before.source.coming after.source.coming given) (append-nil (packets_of judged))
       (gives_more room before.source.coming mid.source.coming after.source.coming (packets_of judged) [] run.given_once given);
+  given_in_order = subst (λ (given : List (List ℕ)). AreGivenAfter room before.source.given after.source.given given) (append-nil (packets_of judged))
+      (after_more room before.source.given mid.source.given after.source.given (packets_of judged) [] run.given_in_order given_no_more);
   counted_once = counter ∙ run.counted_once;
   sent_once = subst (λ (o : OutboxValue). Takes before.outbox.taken o.taken (all_sent judged)) (sym outbox) run.sent_once;
   source_healthy = healthy ∙ run.source_healthy;

@@ -11,7 +11,7 @@ use Rattle.packet_verdict.specs.declared.kind.Kind.TheVariants as kind
 use Rattle.dispatch.specs.declared.tally.TheConstants.{COUNT_LIMIT}
 use Rattle.packet_verdict.specs.declared.verdict.Verdict.{Verdict}
 use Rattle.packet_verdict.specs.declared.verdict.Verdict.TheVariants.{Deliver}
-use Rattle.dispatch.specs.Device.{Gives, IsAtEnd, OutboxValue, Sent, SourceValue, Takes}
+use Rattle.dispatch.specs.Device.{AreGivenAfter, Gives, IsAtEnd, OutboxValue, Sent, SourceValue, Takes}
 use Rattle.dispatch.specs.Tally.{CounterValue, counted, place_of}
 pub use Rattle.packet_verdict.specs.Kind.{kind_of}
 use Rattle.packet_verdict.specs.Sound.{ProgramsAreSound}
@@ -93,6 +93,7 @@ pub record Parts : Type 0 where
 pub record IsRun (room : ℕ) (before after : Parts) (judged : List Judged) : Type 0 where
   pub own_section_each : AreJudged before.worker judged after.worker
   pub given_once : Gives room before.source.coming after.source.coming (packets_of judged)
+  pub given_in_order : AreGivenAfter room before.source.given after.source.given (packets_of judged)
   pub counted_once : after.counter ≡ all_counted_for judged before.counter
   pub sent_once : Takes before.outbox.taken after.outbox.taken (all_sent judged)
   pub source_healthy : after.source.failures ≡ before.source.failures
@@ -111,6 +112,7 @@ pub record FailsToReceive (room : ℕ) (before after : Parts) : Type 0 where
   pub worker : after.worker ≡ before.worker
   pub outbox : after.outbox ≡ before.outbox
   pub given_nothing : Gives room before.source.coming after.source.coming []
+  pub given_no_more : AreGivenAfter room before.source.given after.source.given []
   pub one_failure : after.source.failures ≡ suc before.source.failures
 
 -- one datagram more was judged, but its verdict could not be counted, so nothing was sent; or its send failed, and that could
@@ -119,6 +121,7 @@ pub record IsCutShort (room : ℕ) (before after : Parts) (judged : Judged) : Ty
   pub own_section : IsJudged before.worker judged
   pub worker : after.worker ≡ judged.after
   pub given_once : Gives room before.source.coming after.source.coming (judged.packet ∷ [])
+  pub given_in_order : AreGivenAfter room before.source.given after.source.given (judged.packet ∷ [])
   pub counted_before : after.counter ≡ counted_but_last judged before.counter
   pub sent_nothing : Takes before.outbox.taken after.outbox.taken []
   pub source_healthy : after.source.failures ≡ before.source.failures

@@ -2,10 +2,11 @@
 use Rattle.std.specs.Prelude.{◌≡◌, ◌++◌, ◌∷◌, Err, List, None, Ok, Option, Result, Some, [], map, suc, take, ℕ}
 use Rattle.ipv4_fields.specs.declared.endpoint.Endpoint.{Endpoint}
 
--- a source; `coming` are the datagrams that it still has
+-- a source; `coming` are the datagrams that it still has, and `given` those that it has given, in order, whole
 pub record SourceValue : Type 0 where
   pub failures : ℕ
   pub coming : Option (List (List ℕ))
+  pub given : Option (List (List ℕ))
 
 -- bytes that were sent to an endpoint
 pub record Sent : Type 0 where
@@ -27,6 +28,14 @@ abbrev pub Gives : ℕ → Option (List (List ℕ)) → Option (List (List ℕ))
 Gives room None after given = Unit {0}
 Gives room (Some coming) None given = ⊥
 Gives room (Some coming) (Some later) given = (whole : List (List ℕ)) × (coming ≡ whole ++ later) × (given ≡ map (take room) whole)
+
+-- these datagrams, each cut to the room, are given after those that were given before. They are known before and after it, or neither
+-- before nor after
+abbrev pub AreGivenAfter : ℕ → Option (List (List ℕ)) → Option (List (List ℕ)) → List (List ℕ) → Type 0
+AreGivenAfter room None None more = Unit {0}
+AreGivenAfter room None (Some later) more = ⊥
+AreGivenAfter room (Some earlier) None more = ⊥
+AreGivenAfter room (Some earlier) (Some later) more = (whole : List (List ℕ)) × (later ≡ earlier ++ whole) × (more ≡ map (take room) whole)
 
 -- the datagrams of a source whose call ended so, and whose buffer then has these bytes
 abbrev pub given_in : {E : Type 0} → List ℕ → Result (Option ℕ) E → List (List ℕ)

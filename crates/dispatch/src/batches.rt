@@ -3,7 +3,7 @@
 ghost use Rattle.std.specs.Prelude.{◌≡◌, ◌≤◌, IfErr, IfOk, IfSome, length};
 ghost use Rattle.bpf_machine.specs.declared.TheConstants.{MAX_PACKET};
 ghost use Rattle.dispatch.specs.Batch.{IsBatch};
-ghost use Rattle.dispatch.specs.Device.{CountsFailure, Gives, IsAtEnd, given_in};
+ghost use Rattle.dispatch.specs.Device.{AreGivenAfter, CountsFailure, Gives, IsAtEnd, given_in};
 ghost use Rattle.dispatch.specs.Told.{IsToldBatch};
 ghost use Rattle.dispatch.specs.WorkerSteps.{AddsOwnSteps};
 ghost use Rattle.read_section.specs.Worker.{IsOutside};
@@ -52,6 +52,7 @@ fn receive<S: Source, O: VerdictOutbox>(
     ensures device_failed { CountsFailure result (S.state source.old).failures (S.state source.new).failures }
     ensures within { IfOk result (λ answer. IfSome answer (λ size. size ≤ length buf.new)) }
     ensures given_once { Gives (length buf.new) (S.state source.old).coming (S.state source.new).coming (given_in buf.new result) }
+    ensures given_in_order { AreGivenAfter (length buf.new) (S.state source.old).given (S.state source.new).given (given_in buf.new result) }
     ensures end { result ≡ Ok None → IsAtEnd (S.state source.new).coming }
     ensures outbox_kept { O.state outbox.new ≡ O.state outbox.old }
     ensures told_kept { O.told outbox.new ≡ O.told outbox.old }

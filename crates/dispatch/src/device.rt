@@ -1,7 +1,7 @@
 //! Devices: where datagrams come from, and where they go (docs/SWITCH.md, "Devices").
 
 ghost use Rattle.std.specs.Prelude.{◌≡◌, ◌≤◌, IfOk, IfSome, length};
-ghost use Rattle.dispatch.specs.Device.{CountsFailure, Gives, IsAtEnd, OutboxValue, SourceValue, Takes, given_in, taken_by};
+ghost use Rattle.dispatch.specs.Device.{AreGivenAfter, CountsFailure, Gives, IsAtEnd, OutboxValue, SourceValue, Takes, given_in, taken_by};
 
 use ipv4_fields::Endpoint;
 use packet_verdict::Verdict;
@@ -20,6 +20,7 @@ pub trait Source {
         ensures device_failed { CountsFailure result (state self.old).failures (state self.new).failures }
         ensures within { IfOk result (λ answer. IfSome answer (λ size. size ≤ length buf.new)) }
         ensures given_once { Gives (length buf.new) (state self.old).coming (state self.new).coming (given_in buf.new result) }
+        ensures given_in_order { AreGivenAfter (length buf.new) (state self.old).given (state self.new).given (given_in buf.new result) }
         ensures end { result ≡ Ok None → IsAtEnd (state self.new).coming };
 
     /// Tests whether `next` must wait for a datagram now. Meanwhile the outbox should keep nothing back.

@@ -44,9 +44,9 @@ impl Datagrams {
 
 /// It never fails.
 impl Source for Datagrams {
-    ghost use Rattle.std.specs.Prelude.{Some};
+    ghost use Rattle.std.specs.Prelude.{None, Some};
 
-    ghost state = { λ d. record { failures = 0; coming = Some d } };
+    ghost state = { λ d. record { failures = 0; coming = Some d; given = None } };
 
     fn next(&mut self, buf: &mut [u8]) -> Result<Option<usize>, Failed> {
         let Some(datagram) = self.waiting.pop_front() else {

@@ -4,6 +4,7 @@ use Rattle.crossbeam_channel.specs.Claims.{view}
 use Rattle.crossbeam_channel.specs.Ends.{receives_on, sends_on}
 use Rattle.serve_devices.specs.declared.channel.ChannelReceiver.{ChannelReceiver}
 use Rattle.serve_devices.specs.declared.channel.ChannelSender.{ChannelSender}
+use Rattle.serve_devices.specs.declared.channel.Taken.{Taken}
 
 -- the one list is the beginning of the other
 abbrev pub IsFirstOf : {T : Type 0} → List T → List T → Type 0
@@ -17,6 +18,10 @@ module _ {T : Type 0} where
   -- what was taken out, in order
   abbrev pub taken_from : ChannelReceiver T → List T
   taken_from receiver = (view receiver.pass).taken
+
+  -- the same, by an end that is gone
+  abbrev pub all_taken : Taken T → List T
+  all_taken taken = (view taken.pass).taken
 
   abbrev pub AreOneChannel : ChannelSender T → ChannelReceiver T → Type 0
   AreOneChannel sender receiver = receives_on receiver.end ≡ sends_on sender.end

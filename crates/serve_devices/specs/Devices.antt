@@ -30,19 +30,24 @@ GivesNext bytes (Ok None) before after = (after.coming ≡ Some []) × ((before.
 GivesNext bytes (Err fault) before after = before.coming ≡ option_map (λ (later : List Receive). None ∷ later) after.coming
 
 -- the receive that was given comes after those that were given before: a datagram, cut to the buffer with these bytes, or a failure.
--- At the end they are no longer known
+-- At the end they stay
 abbrev pub GivesAfter : {E : Type 0} → List ℕ → Result (Option ℕ) E → Option (List Receive) → Option (List Receive) → Type 0
 GivesAfter {E} bytes (Ok (Some size)) before after = HasGiven {E = E} bytes (Some (Ok size)) before after
-GivesAfter bytes (Ok None) before after = after ≡ None
+GivesAfter bytes (Ok None) before after = after ≡ before
 GivesAfter bytes (Err fault) before after = HasGiven bytes (Some (Err fault)) before after
 
 -- the datagrams of this many first receives
 abbrev pub datagrams_of : ℕ → List Receive → List (List ℕ)
 datagrams_of left receives = filter_map (λ (receive : Receive). receive) (take left receives)
 
--- as a source it has the datagrams of the receives that are left
+-- the datagrams of all of them
+abbrev pub all_datagrams : List Receive → List (List ℕ)
+all_datagrams receives = filter_map (λ (receive : Receive). receive) receives
+
+-- as a source it has the datagrams of the receives that are left, and has given those of the receives that it gave
 abbrev pub source_of : WorkerSourceValue → SourceValue
-source_of source = record { failures = source.failures; coming = option_map (datagrams_of source.left) source.coming }
+source_of source =
+    record { failures = source.failures; coming = option_map (datagrams_of source.left) source.coming; given = option_map all_datagrams source.past }
 
 -- a receive that is given is one of those that were left, and at the end none is left
 abbrev pub CountsReceive : {E : Type 0} → Result (Option ℕ) E → ℕ → ℕ → Type 0

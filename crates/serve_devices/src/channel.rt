@@ -115,6 +115,12 @@ pub struct ChannelReceiver<T: Drop> {
     ghost right: { (view pass).takes ≡ true },
 }
 
+/// What was taken from a channel by an end that is gone. Contracts see it.
+#[derive(Drop)]
+pub struct Taken<T: Drop> {
+    pass: Pass<T, Share<T>>,
+}
+
 impl<T: Drop> ChannelSender<T> {
     ghost use Rattle.serve_devices.specs.Channel.{HasPut, IsSameSender};
 
@@ -138,7 +144,7 @@ impl<T: Drop> ChannelSender<T> {
 }
 
 impl<T: Drop> ChannelReceiver<T> {
-    ghost use Rattle.serve_devices.specs.Channel.{HasTaken, IsSameReceiver};
+    ghost use Rattle.serve_devices.specs.Channel.{HasTaken, IsSameReceiver, all_taken, taken_from};
 
     /// Takes the next value, and waits for it. `None` if there is none and the other end is gone.
     pub fn take<R: Wait>(&mut self, rt: &R) -> Option<T>
@@ -152,5 +158,14 @@ impl<T: Drop> ChannelReceiver<T> {
         ensures taken { MatchOption result (IsSameReceiver self.old self.new) (HasTaken self.old self.new) }
     {
         self.end.try_recv_as::<Takes, R>(rt, &mut self.pass).ok()
+    }
+
+    /// Gives the end up: no put succeeds any more.
+    pub fn close(self) -> Taken<T>
+        ensures same { all_taken result ≡ taken_from self }
+    {
+        let ChannelReceiver { end, pass } = self;
+        drop(end);
+        Taken { pass }
     }
 }

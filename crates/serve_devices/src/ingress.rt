@@ -3,6 +3,7 @@
 ghost use Rattle.std.specs.Prelude.{◌≡◌, ◌≤◌, IfOk, IfSome, List, None, Option, length, ℕ};
 ghost use Rattle.serve_devices.specs.Ingress.{GivesReceive, HasGiven, IsEnded};
 
+use crate::given::Given;
 use dispatch::Failed;
 
 /// A device that receives datagrams. Contracts see the receives that are still to come and those that it has given, in
@@ -25,4 +26,8 @@ pub trait Ingress {
         ensures within { IfSome result (λ received. IfOk received (λ size. size ≤ length buf.new)) }
         ensures given { GivesReceive buf.new result (coming self.old) (coming self.new) }
         ensures in_order { HasGiven buf.new result (past self.old) (past self.new) };
+
+    /// Gives the device up. What it has given stays known, if it was.
+    fn close(self) -> Given
+        ensures same { result ≡ past self };
 }

@@ -11,6 +11,7 @@
 
 mod channel;
 mod egress;
+mod given;
 mod ingress;
 mod member_outbox;
 mod memory;
@@ -23,6 +24,7 @@ mod worker_source;
 
 pub use channel::{ChannelReceiver, ChannelSender, Gone, open_channel, taken_first};
 pub use egress::{Egress, SocketEgress};
+pub use given::Given;
 pub use ingress::Ingress;
 pub use member_outbox::{LOG_ROOM, MemberOutbox, SharedCounts};
 pub use memory::Receives;

@@ -3,6 +3,7 @@
 ghost use Rattle.std.specs.Prelude.{◌≡◌, ◌++◌, ◌∷◌, OnErr, OnOk, []};
 
 use crate::egress::Egress;
+use crate::given::Given;
 use crate::ingress::Ingress;
 use crate::received::Received;
 use dispatch::{Failed, OutOfMemory, Outbox, Sends};
@@ -59,6 +60,10 @@ impl Ingress for Receives {
 
     fn try_receive(&mut self, buf: &mut [u8]) -> Option<Result<usize, Failed>> {
         self.receive(buf)
+    }
+
+    fn close(self) -> Given {
+        Given::unknown()
     }
 }
 

@@ -6,6 +6,7 @@ ghost use Rattle.serve_devices.specs.Channel.{AreOneChannel, IsFirstOf, IsSameRe
 ghost use Rattle.serve_devices.specs.Ingress.{IsNext};
 
 use crate::channel::{ChannelReceiver, ChannelSender, taken_first};
+use crate::given::Given;
 use crate::ingress::Ingress;
 use crate::received::Received;
 use dispatch::Failed;
@@ -97,5 +98,10 @@ impl<'a, R: Wait> Ingress for QueueIngress<'a, R> {
     {
         let received = self.arriving.poll(self.rt)?;
         Some(self.open(received, buf))
+    }
+
+    fn close(self) -> Given {
+        let QueueIngress { arriving, .. } = self;
+        Given::of_queue(arriving.close())
     }
 }

@@ -2,6 +2,7 @@
 
 ghost use Rattle.std.specs.Prelude.{◌≡◌, ◌≤◌, IfOk, IfSome, length};
 
+use crate::given::Given;
 use crate::ingress::Ingress;
 use dispatch::Failed;
 use libc::net::{MSG_DONTWAIT, SHUT_RD, recv, shutdown};
@@ -80,6 +81,10 @@ impl<'a, R: Wait> Ingress for SocketIngress<'a, R> {
             return None;
         }
         self.poll(buf)
+    }
+
+    fn close(self) -> Given {
+        Given::unknown()
     }
 }
 

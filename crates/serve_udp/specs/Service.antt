@@ -1,5 +1,5 @@
 -- The output of `serve`, and the jobs that its totals count (docs/COMMANDS.md, "serve").
-use Rattle.std.specs.Prelude.{◌≡◌, ◌≢◌, ◌++◌, ◌⊎◌, List, None, Option, [], codes, length, map, reverse, ℕ}
+use Rattle.std.specs.Prelude.{◌≡◌, ◌≢◌, ◌++◌, ◌⊎◌, List, None, Option, Some, [], codes, length, map, reverse, ℕ}
 use Rattle.std.specs.Io.KnownBytes.{Appends}
 use Rattle.std.specs.List.{All}
 use Rattle.command_line.specs.Ending.{AppendsBeginning}
@@ -9,6 +9,7 @@ use Rattle.command_line.specs.ControlAddress.{address_text}
 use Rattle.command_line.specs.declared.control_address.ControlAddress.{ControlAddress}
 use Rattle.config_image.specs.Image.{Group}
 use Rattle.dispatch.specs.Batch.{Parts}
+use Rattle.dispatch.specs.Device.{SourceValue}
 use Rattle.dispatch.specs.declared.kind.Totals.{Totals}
 use Rattle.ipv4_fields.specs.Endpoint.{endpoint_text}
 use Rattle.ipv4_fields.specs.declared.endpoint.Endpoint.{Endpoint}
@@ -27,9 +28,20 @@ HasRoom room limit = (room ≡ LONGEST_DATAGRAM) × (limit ≡ LIMIT)
 abbrev pub HasSilentOutbox : Parts → Type 0
 HasSilentOutbox start = start.outbox ≡ record { failures = 0; taken = None }
 
--- devices that have not failed yet, and show nothing of their datagrams
+-- it has given no datagram, as far as it shows
+abbrev pub HasGivenNone : Option (List (List ℕ)) → Type 0
+HasGivenNone None = Unit {0}
+HasGivenNone (Some given) = given ≡ []
+
+-- a source that has not failed yet and has given no datagram, and shows nothing of those to come
+pub record IsSilentSource (source : SourceValue) : Type 0 where
+  pub failures : source.failures ≡ 0
+  pub coming : source.coming ≡ None
+  pub given : HasGivenNone source.given
+
+-- such devices, whose outbox shows nothing of its sends
 abbrev pub HasSilentDevices : Parts → Type 0
-HasSilentDevices start = (start.source ≡ record { failures = 0; coming = None }) × HasSilentOutbox start
+HasSilentDevices start = IsSilentSource start.source × HasSilentOutbox start
 
 -- the starts of the jobs of this many workers
 abbrev pub AreServiceStarts : ℕ → List Parts → Type 0

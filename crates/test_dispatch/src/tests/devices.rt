@@ -17,10 +17,10 @@ pub struct FailsAfter {
 }
 
 impl Source for FailsAfter {
-    ghost use Rattle.std.specs.Prelude.{Some};
+    ghost use Rattle.std.specs.Prelude.{None, Some};
     ghost use Rattle.dispatch.specs.Batch.{one_if};
 
-    ghost state = { λ s. record { failures = one_if s.failed; coming = Some s.datagrams } };
+    ghost state = { λ s. record { failures = one_if s.failed; coming = Some s.datagrams; given = None } };
 
     fn next(&mut self, buf: &mut [u8]) -> Result<Option<usize>, Failed> {
         if self.calls == 0 && !self.failed {

@@ -109,10 +109,10 @@ struct Looking<'a> {
 }
 
 impl Source for Looking<'_> {
-    ghost use Rattle.std.specs.Prelude.{Some};
+    ghost use Rattle.std.specs.Prelude.{None, Some};
     ghost use Rattle.dispatch.specs.Batch.{one_if};
 
-    ghost state = { λ s. record { failures = one_if s.source.failed; coming = Some s.source.datagrams } };
+    ghost state = { λ s. record { failures = one_if s.source.failed; coming = Some s.source.datagrams; given = None } };
 
     fn next(&mut self, buf: &mut [u8]) -> Result<Option<usize>, Failed> {
         if self.gate.started.get() == self.gate.ended.get() {

@@ -1,4 +1,4 @@
-use Rattle.std.proofs.Common.{◌∙◌, ◌+◌, ◌++◌, ◌∷◌, List, Some, [], ap, arith, length, map, subst, sym, ℕ, rules}
+use Rattle.std.proofs.Common.{◌∙◌, ◌+◌, ◌++◌, ◌∷◌, List, None, Some, [], ap, arith, length, map, subst, sym, ℕ, rules}
 use Rattle.std.proofs.lemmas.List.{map-append}
 use Rattle.std.proofs.lemmas.List.Elements.{All-pop, All-push, All-same}
 use Rattle.dispatch.specs.Device.{SourceValue}
@@ -23,7 +23,7 @@ loop-place-preserved c =
           (All-push (λ (j : FloodJob). HasRoom (length j.buffer.items) j.limit) jobs job before.3 made.room),
       subst (AreStartsOf c.args.workers c.args.datagrams (place + 1)) (sym (ap (map start_of) pushed.items ∙ map-append start_of jobs (job ∷ [])))
           (starts_more c.args.workers c.args.datagrams place (map start_of jobs) (start_of job) before.4
-          (ap (λ (d : List (List ℕ)). let value : SourceValue = record { failures = 0; coming = Some d } in value) made.share) made.empty),
+          (ap (λ (d : List (List ℕ)). let value : SourceValue = record { failures = 0; coming = Some d; given = None } in value) made.share) made.empty),
       λ table new.
           let popped = All-pop (IsNew table) c.loop-place.counters.items c.pop-in-loop-place.new.self.items (Some c.in-Some-Some.counter) c.in-Some-Some.ensures'.items (before.5 table new).0 in (
             popped.0,

@@ -5,7 +5,7 @@ use Rattle.dispatch.specs.Device.{OutboxValue, Takes}
 use Rattle.dispatch.specs.Told.{Told, told_of, told_of_last}
 use Rattle.dispatch.specs.Tally.{CounterValue}
 use Rattle.dispatch.proofs.BatchLemmas.{answered, at_end, at_limit, cut_short, failed, failed_full, run_more, run_of_none, run_on, still_told, told_more}
-use Rattle.dispatch.proofs.DeviceLemmas.{gives_none, gives_nothing_to, gives_one, takes_nothing}
+use Rattle.dispatch.proofs.DeviceLemmas.{after_none, after_nothing_to, after_one, gives_none, gives_nothing_to, gives_one, takes_nothing}
 use Rattle.dispatch.proofs.StepLemmas.{adds_more, adds_nothing, judging_adds, judging_leaves}
 use Rattle.dispatch.proofs.batches.run_batch.Goals as goal
 
@@ -32,6 +32,8 @@ loop-judged-preserved g c =
           after_it = one.after;
           given_once = gives_one (length c.args.buf.now) mid.source.coming after.source.coming c.receive.new.buf one.judged.packet some.size some.field-0 some.field-0-is
               (let same = c.receive.auto.buf in let still = c.loop-judged.auto.buf in omega arith) one.packet_is some.ensures.given_once;
+          given_in_order = after_one (length c.args.buf.now) mid.source.given after.source.given c.receive.new.buf one.judged.packet some.size some.field-0 some.field-0-is
+              (let same = c.receive.auto.buf in let still = c.loop-judged.auto.buf in omega arith) one.packet_is some.ensures.given_in_order;
           counted_once = one.counted_once;
           sent_once = subst (λ (o : OutboxValue). Takes o.taken after.outbox.taken (sent_of one.judged)) some.ensures.outbox_kept one.sent_once;
           source_healthy = some.ensures.device_failed;
@@ -57,7 +59,8 @@ returns-in-Ok-None-clause-batch g c =
     let run = still_told _ _ _ _ (g.O.VerdictOutbox.told c.receive.new.outbox) c.loop-judged.judged none.ensures.told_kept c.loop-judged.invariant in
     at_end (length c.args.buf.now) c.args.limit _ _ _ _ _ c.loop-judged.judged run c.loop-judged-test.true
     (run_on (length c.args.buf.now) _ _ _ run.so_far.judged run.so_far.run refl refl none.ensures.outbox_kept
-    (gives_none (length c.args.buf.now) _ _ c.receive.new.buf none.field-0 none.field-0-is none.ensures.given_once) none.ensures.device_failed)
+    (gives_none (length c.args.buf.now) _ _ c.receive.new.buf none.field-0 none.field-0-is none.ensures.given_once)
+    (after_none (length c.args.buf.now) _ _ c.receive.new.buf none.field-0 none.field-0-is none.ensures.given_in_order) none.ensures.device_failed)
     (none.ensures.end (ap Ok none.field-0-is))
 
 pub returns-in-Err-clause-batch : goal.returns-in-Err-clause-batch
@@ -65,7 +68,13 @@ returns-in-Err-clause-batch g c =
     let err = c.in-Err in
     let run = still_told _ _ _ _ (g.O.VerdictOutbox.told c.receive.new.outbox) c.loop-judged.judged err.ensures.told_kept c.loop-judged.invariant in
     failed (length c.args.buf.now) c.args.limit _ _ _ _ _ c.loop-judged.judged run c.loop-judged-test.true
-    (record { worker = refl; outbox = err.ensures.outbox_kept; given_nothing = gives_nothing_to (length c.args.buf.now) (length c.receive.new.buf) _ _ err.ensures.given_once; one_failure = err.ensures.device_failed })
+    (record {
+      worker = refl;
+      outbox = err.ensures.outbox_kept;
+      given_nothing = gives_nothing_to (length c.args.buf.now) (length c.receive.new.buf) _ _ err.ensures.given_once;
+      given_no_more = after_nothing_to (length c.args.buf.now) (length c.receive.new.buf) _ _ err.ensures.given_in_order;
+      one_failure = err.ensures.device_failed;
+    })
     c.in_ok-count-in-Err.ensures.one_count
 
 pub returns-in_err-count-in-Err-clause-batch : goal.returns-in_err-count-in-Err-clause-batch
@@ -74,7 +83,13 @@ returns-in_err-count-in-Err-clause-batch g c =
     let run = still_told _ _ _ _ (g.O.VerdictOutbox.told c.receive.new.outbox) c.loop-judged.judged err.ensures.told_kept c.loop-judged.invariant in
     answered _ _ _ _ _ _ c.from_residual.result c.from_residual.ensures.1
     (failed_full (length c.args.buf.now) c.args.limit _ _ _ _ _ c.loop-judged.judged run c.loop-judged-test.true
-    (record { worker = refl; outbox = err.ensures.outbox_kept; given_nothing = gives_nothing_to (length c.args.buf.now) (length c.receive.new.buf) _ _ err.ensures.given_once; one_failure = err.ensures.device_failed })
+    (record {
+      worker = refl;
+      outbox = err.ensures.outbox_kept;
+      given_nothing = gives_nothing_to (length c.args.buf.now) (length c.receive.new.buf) _ _ err.ensures.given_once;
+      given_no_more = after_nothing_to (length c.args.buf.now) (length c.receive.new.buf) _ _ err.ensures.given_in_order;
+      one_failure = err.ensures.device_failed;
+    })
     c.in_err-count-in-Err.ensures.kept
     (ap (λ (counter : CounterValue). length counter.log) c.in_err-count-in-Err.ensures.kept ∙ c.in_err-count-in-Err.ensures.count_full.0 refl))
 
@@ -90,6 +105,8 @@ returns-in_err-handle-clause-batch g c =
       worker = one.after;
       given_once = gives_one (length c.args.buf.now) mid.source.coming after.source.coming c.receive.new.buf one.judged.packet some.size some.field-0 some.field-0-is
           (let same = c.receive.auto.buf in let still = c.loop-judged.auto.buf in omega arith) one.packet_is some.ensures.given_once;
+      given_in_order = after_one (length c.args.buf.now) mid.source.given after.source.given c.receive.new.buf one.judged.packet some.size some.field-0 some.field-0-is
+          (let same = c.receive.auto.buf in let still = c.loop-judged.auto.buf in omega arith) one.packet_is some.ensures.given_in_order;
       counted_before = one.counted_before;
       sent_nothing = subst (λ (o : OutboxValue). Takes o.taken after.outbox.taken []) some.ensures.outbox_kept one.sent_nothing;
       source_healthy = some.ensures.device_failed;

@@ -25,3 +25,9 @@ returns-in_default-clause-given_once c = search rules
 
 pub returns-in_default-clause-within : goal.returns-in_default-clause-within
 returns-in_default-clause-within c = search rules
+
+pub returns-clause-given_in_order : goal.returns-clause-given_in_order
+returns-clause-given_in_order c = search rules
+
+pub returns-in_default-clause-given_in_order : goal.returns-in_default-clause-given_in_order
+returns-in_default-clause-given_in_order c = search rules
