@@ -1,5 +1,5 @@
 -- Jobs that were run to their ends: their counters stay those of one tally, and totals are their sums.
-use Rattle.std.proofs.Common.{◌≡◌, ◌∙◌, ◌+◌, ◌++◌, ◌∷◌, Bool, Err, List, Ok, Result, [], ap, ap₂, arith, false, inl, inr, length, length-append, map, refl, subst, suc, true, zero-add, ℕ}
+use Rattle.std.proofs.Common.{◌≡◌, ◌∙◌, ◌%◌, ◌+◌, ◌++◌, ◌^◌, ◌∷◌, Bool, Err, List, Ok, Result, [], ap, ap₂, arith, false, inl, inr, length, length-append, map, refl, subst, suc, true, zero-add, ℕ}
 use Rattle.std.proofs.lemmas.List.{length-map}
 use Rattle.std.proofs.lemmas.List.Elements.{All-append, All-cons, All-from_get_or, All-head, All-map, All-nil, All-same, All-tail, All-weaker}
 use Rattle.std.proofs.lemmas.Option.{get_or_from_slice_get}
@@ -18,16 +18,16 @@ use Rattle.dispatch.specs.declared.tally.TheConstants.{COUNTERS}
 use Rattle.dispatch.specs.declared.worker_job.Done.{Done}
 use Rattle.dispatch.specs.declared.worker_job.Job.{Job}
 use Rattle.dispatch.specs.Batch.{IsBatch, IsEnd, Judged, Parts, all_counted_for, counted_as, counted_for, counted_if, kind_of}
-use Rattle.dispatch.specs.Job.{IsJob, runs_to_the_end, then_goes_on}
+use Rattle.dispatch.specs.Job.{GateEvent, IsJob, runs_to_the_end, then_goes_on}
 use Rattle.dispatch.specs.Tally.{AreCountersOf, CounterValue, place_of, sum_of_counts, times, total_of}
-use Rattle.dispatch.specs.Workers.{AreDone, parts_of_done, parts_of_job}
+use Rattle.dispatch.specs.Workers.{AreDone, AreGatedDone, parts_of_done, parts_of_job}
 use Rattle.read_section.specs.Operator.{AreOpenedWorkers}
 use Rattle.read_section.specs.Worker.{WorkerValue}
 use Rattle.versions.specs.Layout.{pages_named}
 use Rattle.versions.specs.View.{new_worker}
 use Rattle.versions.specs.Table.{the_shape}
 use Rattle.versions.specs.World.{opening_stored}
-use Rattle.dispatch.specs.Counted.{AreCountersBack, AreEnded, AreRun, IsCounted, IsNew, IsNewWorker, counters_of}
+use Rattle.dispatch.specs.Counted.{AreCountersBack, AreEnded, AreGatedEnded, AreRun, IsCounted, IsNew, IsNewWorker, counters_of}
 
 -- ---- a job's counter stays one of its tally
 
@@ -92,6 +92,13 @@ module _ {S O : Type 0} (source : Source.Ghosts S) (outbox : Outbox.Ghosts O) wh
   ends_of [] (d ∷ dones) done = absurd done
   ends_of (job ∷ jobs) [] done = absurd done
   ends_of (job ∷ jobs) (d ∷ dones) done = (done.0.run_to_its_end, ends_of jobs dones done.1)
+
+  pub gated_of : (called : GateEvent → Type 0) (step number : ℕ) (jobs : List (Job S O source outbox)) (dones : List (Done S O))
+      → AreGatedDone source outbox called step number jobs dones → AreGatedEnded source outbox called step number jobs (map (parts_of_done source outbox) dones)
+  gated_of called step number [] [] gated = tt
+  gated_of called step number [] (d ∷ dones) gated = absurd gated
+  gated_of called step number (job ∷ jobs) [] gated = absurd gated
+  gated_of called step number (job ∷ jobs) (d ∷ dones) gated = (gated.0, gated_of called step ((number + 1) % 2 ^ 64) jobs dones gated.1)
 
   pub counters_of_ends : (dones : List (Done S O)) → counters_of (map (parts_of_done source outbox) dones) ≡ map (λ (done : Done S O). done.counter) dones
   counters_of_ends [] = refl

@@ -8,3 +8,4 @@ pub mod SumLemmas
 pub mod TallyLemmas
 pub mod WorkerLemmas
 pub mod CountedLemmas
+mod WholeLemmas

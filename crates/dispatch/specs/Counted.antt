@@ -1,5 +1,5 @@
 -- The jobs that totals count, and the counters that come back (docs/SWITCH.md, "Workers", "Tallies").
-use Rattle.std.specs.Prelude.{◌≡◌, ◌++◌, ◌∷◌, List, [], length, map, ℕ}
+use Rattle.std.specs.Prelude.{◌≡◌, ◌%◌, ◌+◌, ◌++◌, ◌^◌, ◌∷◌, List, [], length, map, ℕ}
 use Rattle.std.specs.List.{All}
 use Rattle.atomic_table.specs.Seated.{TableId}
 use Rattle.config_image.specs.Image.{Group}
@@ -9,7 +9,7 @@ use Rattle.dispatch.specs.declared.device.Source as Source
 use Rattle.dispatch.specs.declared.kind.Totals.{Totals}
 use Rattle.dispatch.specs.declared.worker_job.Job.{Job}
 use Rattle.dispatch.specs.Batch.{Parts}
-use Rattle.dispatch.specs.Job.{IsJob}
+use Rattle.dispatch.specs.Job.{GateEvent, IsGatedJob, IsJob}
 use Rattle.dispatch.specs.Tally.{CounterValue, sum_of_counts, total_of}
 use Rattle.dispatch.specs.Workers.{parts_of_job}
 use Rattle.read_section.specs.Worker.{WorkerValue}
@@ -61,4 +61,18 @@ module _ {S O : Type 0} (source : Source.Ghosts S) (outbox : Outbox.Ghosts O) wh
   pub record AreCountersBack (jobs : List (Job S O source outbox)) (spare counters : List CounterValue) : Type 0 where
     pub ends : List Parts
     pub run_to_the_end : AreEnded jobs ends
+    pub counters_back : counters ≡ spare ++ counters_of ends
+
+  -- the same, and for each batch of a job the gate was called. The first job begins with this number, and each further one with the next
+  abbrev pub AreGatedEnded : (GateEvent → Type 0) → ℕ → ℕ → List (Job S O source outbox) → List Parts → Type 0
+  AreGatedEnded called step number [] [] = Unit {0}
+  AreGatedEnded called step number [] (end ∷ ends) = ⊥
+  AreGatedEnded called step number (job ∷ jobs) [] = ⊥
+  AreGatedEnded called step number (job ∷ jobs) (end ∷ ends) =
+      IsGatedJob called (length job.buffer.items) job.limit step number (parts_of_job source outbox job) end × AreGatedEnded called step ((number + 1) % 2 ^ 64) jobs ends
+
+  -- the counters are the spare ones, and then those of such jobs as they ended; the first job begins with number 1
+  pub record AreGatedBack (called : GateEvent → Type 0) (step : ℕ) (jobs : List (Job S O source outbox)) (spare counters : List CounterValue) : Type 0 where
+    pub ends : List Parts
+    pub gate_called : AreGatedEnded called step 1 jobs ends
     pub counters_back : counters ≡ spare ++ counters_of ends

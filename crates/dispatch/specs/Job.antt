@@ -1,11 +1,11 @@
 -- The run of a job by a worker's thread (docs/SWITCH.md, "Workers").
-use Rattle.std.specs.Prelude.{◌≡◌, ◌+◌, ◌%◌, ◌^◌, ◌∷◌, Err, List, Ok, Option, Result, [], false, true, ℕ}
+use Rattle.std.specs.Prelude.{◌≡◌, ◌≤◌, ◌+◌, ◌%◌, ◌^◌, ◌++◌, ◌∷◌, ◌⊎◌, Err, List, Ok, Option, Result, [], false, length, true, ℕ}
 use Rattle.std.specs.List.{All}
 use Rattle.dispatch.specs.declared.batches.BatchDone.{BatchDone}
 use Rattle.dispatch.specs.declared.batches.BatchFault.{BatchFault}
 use Rattle.dispatch.specs.declared.batches.BatchFault.TheVariants.{CountFull, ReceiveFailed}
-use Rattle.dispatch.specs.Batch.{IsBatch, Parts}
-use Rattle.dispatch.specs.Device.{Takes}
+use Rattle.dispatch.specs.Batch.{AreJudged, IsBatch, IsFull, Judged, Parts, all_sent, failed_sends, packets_of}
+use Rattle.dispatch.specs.Device.{AreGivenAfter, Gives, IsAtEnd, Sent, Takes}
 
 -- a job goes on after a batch that came to its limit or whose source failed
 abbrev pub GoesOn : Result BatchDone BatchFault → Type 0
@@ -24,6 +24,29 @@ pub data IsJob (room limit : ℕ) : Parts → Parts → Type 0 where
   runs_to_the_end : (before after : Parts) (answer : Result BatchDone BatchFault) → IsBatch room limit before after answer → EndsWith answer → IsJob room limit before after
   then_goes_on : (before mid after : Parts) (answer : Result BatchDone BatchFault) → IsBatch room limit before mid answer → GoesOn answer → IsJob room limit mid after
       → IsJob room limit before after
+
+-- ---- a job as a whole
+
+-- These datagrams were given, received into so much room and judged, one after the other, and these sends were made. The worker, the
+-- source and the outbox did nothing else, but that the source may have failed.
+pub record PassThrough (room : ℕ) (before after : Parts) (judged : List Judged) (sent : List Sent) : Type 0 where
+  pub own_section_each : AreJudged before.worker judged after.worker
+  pub given_once : Gives room before.source.coming after.source.coming (packets_of judged)
+  pub given_in_order : AreGivenAfter room before.source.given after.source.given (packets_of judged)
+  pub sent_once : Takes before.outbox.taken after.outbox.taken sent
+  pub outbox_failures : after.outbox.failures ≡ failed_sends judged + before.outbox.failures
+
+-- The datagrams of all batches of a job, and what it sent of them. At its end the source is, too, or the counter is full. Then one
+-- datagram more may have been judged of which nothing was sent, since its verdict or its failed send could not be counted.
+pub record JudgesAll (room : ℕ) (before after : Parts) : Type 0 where
+  pub judged : List Judged
+  pub uncounted : List Judged
+  pub through : PassThrough room before after (judged ++ uncounted) (all_sent judged)
+  pub end : ((uncounted ≡ []) × IsAtEnd after.source.coming) ⊎ (IsFull after.counter × (length uncounted ≤ 1))
+
+-- so does every job
+abbrev pub EachJudgesAll : Type 0
+EachJudgesAll = (room limit : ℕ) (before after : Parts) → IsJob room limit before after → JudgesAll room before after
 
 -- ---- the numbers of batches
 

@@ -1,7 +1,7 @@
 //! Jobs in separate threads, and the counters that come back (docs/SWITCH.md, "Workers", "Tallies").
 
 ghost use Rattle.std.specs.Prelude.{◌≡◌, ◌+◌, ◌++◌, ◌<◌, ◌≤◌, Err, IfOk, map, vec_capacity, vec_len};
-ghost use Rattle.dispatch.specs.Counted.{AreCountersBack};
+ghost use Rattle.dispatch.specs.Counted.{AreCountersBack, AreGatedBack};
 ghost use Rattle.dispatch.specs.declared.workers.RunFault.TheVariants.{SpawnFailed};
 
 use crate::device::{Outbox, Source};
@@ -59,6 +59,7 @@ pub fn run_counted<
 ) -> Result<Vec<Counter>, RunFault>
     requires side { F.pre side }
     ensures counters_back { IfOk result (λ counters. AreCountersBack S.Source O.Outbox jobs.items spare.items counters.items) }
+    ensures gate_called { IfOk result (λ counters. AreGatedBack S.Source O.Outbox (G.called gate.now) (vec_len jobs) jobs.items spare.items counters.items) }
     ensures side_was_run { IfOk result (λ counters. F.post side tt) }
     ensures spawn_failed { result ≡ Err SpawnFailed → 0 < vec_len jobs }
 {

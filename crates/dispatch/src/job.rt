@@ -3,7 +3,7 @@
 ghost use Rattle.std.specs.Prelude.{◌≡◌, ◌≤◌, ◌∷◌, List, Option, [], false, length, true};
 ghost use Rattle.bpf_machine.specs.declared.TheConstants.{MAX_PACKET};
 ghost use Rattle.dispatch.specs.Device.{Takes};
-ghost use Rattle.dispatch.specs.Job.{EndsWith, GateEvent, GoesOn, IsGatedJob, IsJob, IsToldJob, ended, started};
+ghost use Rattle.dispatch.specs.Job.{EachJudgesAll, EndsWith, GateEvent, GoesOn, IsGatedJob, IsJob, IsToldJob, ended, started};
 
 use crate::batches::{BatchDone, BatchFault, batch};
 use crate::device::{Outbox, Source};
@@ -116,6 +116,12 @@ pub fn run_job<R: Wait, S: Source, O: Outbox, G: Gate>(
         rt, &mut gate, numbers, worker, counter, source, outbox, buf, limit,
     )
 }
+
+/// Law: a job judges the datagrams that its source gives meanwhile, in order, each once, and its outbox is sent what their verdicts
+/// deliver, in order. It runs nothing.
+pub fn whole_job()
+    ensures { EachJudgesAll }
+{}
 
 /// Runs a job as `run_job` does, with a gate of this worker alone.
 pub fn run_told_job<R: Wait, S: Source, O: Outbox, G: WorkerGate>(

@@ -20,7 +20,7 @@ mod workers;
 pub use batches::{BatchDone, BatchFault, batch, batch_told};
 pub use counted_jobs::run_counted;
 pub use device::{Failed, Outbox, Source};
-pub use job::{Gate, OpenGate, WorkerGate, run_job, run_told_job};
+pub use job::{Gate, OpenGate, WorkerGate, run_job, run_told_job, whole_job};
 pub use kind::{KINDS, Totals, write_totals};
 pub use memory::{Datagrams, Sends};
 pub use named_tally::{NamedTally, TallyName};
