@@ -2,7 +2,7 @@
 use Rattle.std.specs.Prelude.{◌≡◌, ◌++◌, ◌∷◌, Err, List, None, Ok, Option, Result, Some, [], map, suc, take, ℕ}
 use Rattle.ipv4_fields.specs.declared.endpoint.Endpoint.{Endpoint}
 
--- a source; `coming` are the datagrams that it still has, and `given` those that it has given, in order, whole
+-- a source; `coming` are the datagrams that it still has, and `given` those that it has given, in order, before a buffer cut them
 pub record SourceValue : Type 0 where
   pub failures : ℕ
   pub coming : Option (List (List ℕ))

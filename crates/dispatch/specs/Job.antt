@@ -1,11 +1,13 @@
 -- The run of a job by a worker's thread (docs/SWITCH.md, "Workers").
-use Rattle.std.specs.Prelude.{◌≡◌, ◌≤◌, ◌+◌, ◌%◌, ◌^◌, ◌++◌, ◌∷◌, ◌⊎◌, Err, List, Ok, Option, Result, [], false, length, true, ℕ}
+use Rattle.std.specs.Prelude.{◌≡◌, ◌==◌, ◌≤◌, if◌then◌else◌, ◌+◌, ◌%◌, ◌^◌, ◌++◌, ◌∷◌, ◌⊎◌, Err, List, Ok, Option, Result, [], false, length, true, ℕ}
 use Rattle.std.specs.List.{All}
 use Rattle.dispatch.specs.declared.batches.BatchDone.{BatchDone}
 use Rattle.dispatch.specs.declared.batches.BatchFault.{BatchFault}
 use Rattle.dispatch.specs.declared.batches.BatchFault.TheVariants.{CountFull, ReceiveFailed}
-use Rattle.dispatch.specs.Batch.{AreJudged, IsBatch, IsFull, Judged, Parts, all_sent, failed_sends, packets_of}
+use Rattle.dispatch.specs.Batch.{AreJudged, IsBatch, IsFull, Judged, Parts, all_counted_for, all_sent, counted_but_last, failed_sends, packets_of}
 use Rattle.dispatch.specs.Device.{AreGivenAfter, Gives, IsAtEnd, Sent, Takes}
+use Rattle.dispatch.specs.Tally.{CounterValue, place_of}
+use Rattle.packet_verdict.specs.declared.kind.Kind.TheVariants as kind
 
 -- a job goes on after a batch that came to its limit or whose source failed
 abbrev pub GoesOn : Result BatchDone BatchFault → Type 0
@@ -28,7 +30,7 @@ pub data IsJob (room limit : ℕ) : Parts → Parts → Type 0 where
 -- ---- a job as a whole
 
 -- These datagrams were given, received into so much room and judged, one after the other, and these sends were made. The worker, the
--- source and the outbox did nothing else, but that the source may have failed.
+-- source and the outbox did nothing else. How often the source failed is left open.
 pub record PassThrough (room : ℕ) (before after : Parts) (judged : List Judged) (sent : List Sent) : Type 0 where
   pub own_section_each : AreJudged before.worker judged after.worker
   pub given_once : Gives room before.source.coming after.source.coming (packets_of judged)
@@ -36,12 +38,27 @@ pub record PassThrough (room : ℕ) (before after : Parts) (judged : List Judged
   pub sent_once : Takes before.outbox.taken after.outbox.taken sent
   pub outbox_failures : after.outbox.failures ≡ failed_sends judged + before.outbox.failures
 
--- The datagrams of all batches of a job, and what it sent of them. At its end the source is, too, or the counter is full. Then one
--- datagram more may have been judged of which nothing was sent, since its verdict or its failed send could not be counted.
+-- the counter without its counts of failed receives
+abbrev pub but_receives : CounterValue → CounterValue
+but_receives counter = record { table = counter.table; log = without_receives counter.log }
+  where
+    without_receives : List ℕ → List ℕ
+    without_receives [] = []
+    without_receives (place ∷ log) = if place == place_of kind.ReceiveFailed then without_receives log else place ∷ without_receives log
+
+-- what was counted of a last datagram, if there is one
+abbrev pub counted_of_last : List Judged → CounterValue → CounterValue
+counted_of_last [] counter = counter
+counted_of_last (last ∷ rest) counter = counted_but_last last counter
+
+-- The datagrams of all batches of a job, each counted once, and what it sent of them. The job ends with its source, or with a full
+-- counter. Then one datagram more may have been judged of which nothing was sent, since its verdict or its failed send could not be
+-- counted.
 pub record JudgesAll (room : ℕ) (before after : Parts) : Type 0 where
   pub judged : List Judged
   pub uncounted : List Judged
   pub through : PassThrough room before after (judged ++ uncounted) (all_sent judged)
+  pub counted_once : but_receives after.counter ≡ counted_of_last uncounted (all_counted_for judged (but_receives before.counter))
   pub end : ((uncounted ≡ []) × IsAtEnd after.source.coming) ⊎ (IsFull after.counter × (length uncounted ≤ 1))
 
 -- so does every job

@@ -117,8 +117,8 @@ pub fn run_job<R: Wait, S: Source, O: Outbox, G: Gate>(
     )
 }
 
-/// Law: a job judges the datagrams that its source gives meanwhile, in order, each once, and its outbox is sent what their verdicts
-/// deliver, in order. It runs nothing.
+/// Law: what all batches of a job do together. They judge the datagrams that its source gives meanwhile, in order, each once, and count
+/// each; the outbox is sent what their verdicts deliver, in order. It runs nothing.
 pub fn whole_job()
     ensures { EachJudgesAll }
 {}

@@ -30,7 +30,7 @@ GivesNext bytes (Ok None) before after = (after.coming ≡ Some []) × ((before.
 GivesNext bytes (Err fault) before after = before.coming ≡ option_map (λ (later : List Receive). None ∷ later) after.coming
 
 -- the receive that was given comes after those that were given before: a datagram, cut to the buffer with these bytes, or a failure.
--- At the end they stay
+-- At the end nothing changes
 abbrev pub GivesAfter : {E : Type 0} → List ℕ → Result (Option ℕ) E → Option (List Receive) → Option (List Receive) → Type 0
 GivesAfter {E} bytes (Ok (Some size)) before after = HasGiven {E = E} bytes (Some (Ok size)) before after
 GivesAfter bytes (Ok None) before after = after ≡ before

@@ -160,7 +160,7 @@ impl<T: Drop> ChannelReceiver<T> {
         self.end.try_recv_as::<Takes, R>(rt, &mut self.pass).ok()
     }
 
-    /// Gives the end up: no put succeeds any more.
+    /// Drops the end: no put succeeds any more.
     pub fn close(self) -> Taken<T>
         ensures same { all_taken result ≡ taken_from self }
     {

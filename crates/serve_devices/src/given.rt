@@ -4,7 +4,7 @@ use crate::channel::Taken;
 use crate::received::Received;
 use std::marker::Model;
 
-/// The receives of an ingress that was closed. Contracts see them, in order, if they are known.
+/// The receives that an ingress gave before it was closed. Contracts see them, in order, if they are known.
 #[derive(Drop)]
 pub struct Given {
     taken: Option<Taken<Received>>,

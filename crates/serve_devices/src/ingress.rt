@@ -27,7 +27,7 @@ pub trait Ingress {
         ensures given { GivesReceive buf.new result (coming self.old) (coming self.new) }
         ensures in_order { HasGiven buf.new result (past self.old) (past self.new) };
 
-    /// Gives the device up. What it has given stays known, if it was.
+    /// Closes the device, and returns what it gave, if that is known.
     fn close(self) -> Given
         ensures same { result ≡ past self };
 }

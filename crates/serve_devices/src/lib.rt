@@ -22,7 +22,7 @@ mod socket_outbox;
 mod worker_queues;
 mod worker_source;
 
-pub use channel::{ChannelReceiver, ChannelSender, Gone, open_channel, taken_first};
+pub use channel::{ChannelReceiver, ChannelSender, Gone, Taken, open_channel, taken_first};
 pub use egress::{Egress, SocketEgress};
 pub use given::Given;
 pub use ingress::Ingress;

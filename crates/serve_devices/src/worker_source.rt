@@ -23,7 +23,7 @@ pub const RECEIVE_LIMIT: u64 = COUNT_LIMIT / 2 - 1;
 /// how many receives it still gives at most, the receives to come, and those that it has given.
 #[derive(Drop)]
 pub struct WorkerSource<I: Ingress + Drop> {
-    // What it had given, at the end.
+    // The ingress, or what it gave, once it is closed.
     ingress: Result<I, Given>,
     // The receive ahead, if there is one; its datagram is in the front of `room`.
     ahead: Option<Result<usize, Failed>>,
@@ -114,7 +114,7 @@ fn look_ahead<I: Ingress>(
     }
 }
 
-// Closes the ingress, if it is not closed.
+// Closes the ingress, unless it is closed already.
 fn close<I: Ingress + Drop>(ingress: &mut Result<I, Given>)
     ensures coming { coming_in I.coming ingress.new ≡ Some [] }
     ensures past { past_in I.past ingress.new ≡ past_in I.past ingress.old }

@@ -33,13 +33,13 @@ abbrev pub HasGivenNone : Option (List (List ℕ)) → Type 0
 HasGivenNone None = Unit {0}
 HasGivenNone (Some given) = given ≡ []
 
--- a source that has not failed yet and has given no datagram, and shows nothing of those to come
+-- a source that has not failed yet and, as far as it shows, has given no datagram; it shows nothing of those to come
 pub record IsSilentSource (source : SourceValue) : Type 0 where
   pub failures : source.failures ≡ 0
   pub coming : source.coming ≡ None
   pub given : HasGivenNone source.given
 
--- such devices, whose outbox shows nothing of its sends
+-- such a source, and an outbox that has not failed yet and shows nothing of its sends
 abbrev pub HasSilentDevices : Parts → Type 0
 HasSilentDevices start = IsSilentSource start.source × HasSilentOutbox start
 
